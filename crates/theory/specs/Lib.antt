@@ -1,0 +1,4 @@
+pub mod Tests
+pub mod Found
+pub mod WellFormed
+pub mod Sound
