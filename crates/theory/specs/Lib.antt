@@ -2,3 +2,5 @@ pub mod Tests
 pub mod Found
 pub mod WellFormed
 pub mod Sound
+pub mod Orders
+pub mod Cycles
