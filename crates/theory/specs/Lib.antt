@@ -2,3 +2,4 @@ pub mod Tests
 pub mod Found
 pub mod WellFormed
 pub mod Sound
+pub mod Numbers
