@@ -3,3 +3,4 @@ pub mod Found
 pub mod WellFormed
 pub mod Sound
 pub mod Numbers
+pub mod WellRead
