@@ -4,3 +4,5 @@ pub mod WellFormed
 pub mod Sound
 pub mod Orders
 pub mod Cycles
+pub mod Numbers
+pub mod WellRead
