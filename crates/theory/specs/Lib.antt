@@ -6,3 +6,9 @@ pub mod Orders
 pub mod Cycles
 pub mod Numbers
 pub mod WellRead
+pub mod Settling
+pub mod Locality
+pub mod Choices
+pub mod Along
+pub mod StateFaults
+pub mod Valuations
