@@ -40,6 +40,11 @@ pub bind-refuse : {A B : Type 0} (m : Outcome A) (f : A → Outcome B) (n : ℕ)
 bind-refuse (ok a) f n xs e = inr (a, refl, e)
 bind-refuse (refuse m ys) f n xs e = inl cc
 
+-- what is bound gives no refusal of its own
+pub bound-refuse : {A B : Type 0} (m : Outcome A) (b : B) (n : ℕ) (xs : List ℕ) → (m >>= λ _. ok b) ≡ refuse n xs → m ≡ refuse n xs
+bound-refuse (ok a) b n xs e = absurd (ok-not-refuse e)
+bound-refuse (refuse k ys) b n xs e = cc
+
 pub demand-ok : (b : Bool) (n : ℕ) (xs : List ℕ) → demand b n xs ≡ ok tt → b ≡ true
 demand-ok true n xs e = refl
 demand-ok false n xs e = absurd (ok-not-refuse (sym e))

@@ -12,3 +12,7 @@ pub mod Choices
 pub mod Along
 pub mod StateFaults
 pub mod Valuations
+pub mod Stepping
+pub mod StepFaults
+pub mod Sweeps
+pub mod Checking

@@ -19,7 +19,7 @@ use Rattle.meaning.specs.Steps.{conditionRow, rowHolds, rowValue, conditionHits
 use Rattle.meaning.specs.Ordered.{Before}
 use Rattle.meaning.specs.Valued.{Holds, Held, Takes, holds, gives, ReadBy, Gap, Overlap, Faultless}
 use Rattle.theory.specs.Tests.{true-not-false}
-use Rattle.theory.specs.Found.{ok-not-refuse, ok-same, refuse-same, answered, bind-ok, bind-refuse, HitsView, none-holds, one-holds, two-hold, hits-view}
+use Rattle.theory.specs.Found.{ok-not-refuse, ok-same, refuse-same, answered, bind-ok, bound-refuse, HitsView, none-holds, one-holds, two-hold, hits-view}
 use Rattle.theory.specs.Settling.{each, choose-fixed}
 use Rattle.theory.specs.Along.{Judged, clear, faulty, each-good, clear-each, each-fault, fault-each}
 use Rattle.theory.specs.Locality.{SameReads, holds-same}
@@ -46,7 +46,7 @@ lowest-two f i j i′ j′ l u l′ t t′ = go (decLe (suc i′) j) (decLe (suc
     go (no p) (yes q) = let o : ⊥ = omega arith in absurd o
     go (no p) (no q) = (omega arith, omega arith)
 
-both-ways : (i j i′ j′ : ℕ) → (i ≤ i′) × (j ≤ j′) → (i′ ≤ i) × (j′ ≤ j) → (i ≡ i′) × (j ≡ j′)
+pub both-ways : (i j i′ j′ : ℕ) → (i ≤ i′) × (j ≤ j′) → (i′ ≤ i) × (j′ ≤ j) → (i ≡ i′) × (j ≡ j′)
 both-ways i j i′ j′ p q = (omega arith, omega arith)
 
 module _ (z : TableSet) where
@@ -270,11 +270,7 @@ module _ (z : TableSet) where
     pub values-refused : (n : ℕ) (xs : List ℕ) → (valuesIn z s ≡ refuse n xs) ↔ FirstInState n xs
     values-refused n xs = (
       λ e. each-fault (count z) (reads z) (order z) (order-sound z) Rule Known (NoFaultAt s) Shown verdict n xs
-          (inner (bind-refuse (each Rule (order z)) _ n xs (sym (values-each z s) ∙ e))),
+          (bound-refuse (each Rule (order z)) _ n xs (sym (values-each z s) ∙ e)),
       λ f. values-each z s
           ∙ rw (fault-each (count z) (reads z) (order z) (order-sound z) Rule Known (NoFaultAt s) Shown verdict n xs f),
     )
-      where
-        inner : {m : Outcome (Unit {0})} → (m ≡ refuse n xs) ⊎ ((a : Unit {0}) × (m ≡ ok a) × (ok (chosenIn z s) ≡ refuse n xs)) → m ≡ refuse n xs
-        inner (inl p) = p
-        inner (inr p) = absurd (ok-not-refuse (p .2))
