@@ -114,30 +114,30 @@ module _ (z : TableSet) (acyclic : noCycle z ≡ ok tt) (wf : WellFormed z) wher
 
   -- ---- steps, where no state has a fault
   module _ (whole : NoStateFault z) where
-    values : (s : ℕ) → s < stateCount z → valuesIn z s ≡ ok (chosenIn z s)
+    pub values : (s : ℕ) → s < stateCount z → valuesIn z s ≡ ok (chosenIn z s)
     values s l = faultless-ok z acyclic s l (whole s l)
 
-    valued : (s : ℕ) → s < stateCount z → IsValuation z s (chosenIn z s)
+    pub valued : (s : ℕ) → s < stateCount z → IsValuation z s (chosenIn z s)
     valued s l = chosen-valuation z acyclic wf s (whole s l) l
 
     module _ (s : ℕ) (l : s < stateCount z) (e : Input) (on : enabled z (chosenIn z s) e ≡ true) where
-      abbrev After : Values
+      abbrev pub After : Values
       After = Next z acyclic wf s e (chosenIn z s) (valued s l) on
 
-      abbrev AfterState : ℕ
+      abbrev pub AfterState : ℕ
       AfterState = NextState z acyclic wf s e (chosenIn z s) (valued s l) on
 
-      after-whole : Faultless z AfterState
+      pub after-whole : Faultless z AfterState
       after-whole = whole AfterState (there-typed z acyclic wf s e (chosenIn z s) (valued s l) (New z acyclic wf s e (chosenIn z s) (valued s l) on))
 
-      after-led : Leads z s (chosenIn z s) e AfterState After
+      pub after-led : Leads z s (chosenIn z s) e AfterState After
       after-led = after-leads z acyclic wf s e (chosenIn z s) (valued s l) (New z acyclic wf s e (chosenIn z s) (valued s l) on) after-whole
 
-      step-said : (b : Values) → valuesAfter z s e (chosenIn z s) ≡ ok b
+      pub step-said : (b : Values) → valuesAfter z s e (chosenIn z s) ≡ ok b
           → ((v i j : ℕ) → StepOverlap z s e v i j → ⊥) × (b ≡ After) × ((s″ : ℕ) (c : Values) → Leads z s (chosenIn z s) e s″ c → c ≡ After)
       step-said = after-ok z acyclic wf s e (chosenIn z s) (valued s l) on (whole s l) after-whole
 
-      quiet-step : ((v i j : ℕ) → StepOverlap z s e v i j → ⊥) → valuesAfter z s e (chosenIn z s) ≡ ok After
+      pub quiet-step : ((v i j : ℕ) → StepOverlap z s e v i j → ⊥) → valuesAfter z s e (chosenIn z s) ≡ ok After
       quiet-step = no-overlap-ok z acyclic wf s e (chosenIn z s) (valued s l) on (whole s l) after-whole
 
       step-refused : (n : ℕ) (xs : List ℕ)
@@ -150,7 +150,7 @@ module _ (z : TableSet) (acyclic : noCycle z ≡ ok tt) (wf : WellFormed z) wher
       pub same : a ≡ chosenIn z s
       pub on : enabled z (chosenIn z s) e ≡ true
 
-    started : (s s′ : ℕ) (e : Input) (a b : Values) → Leads z s a e s′ b → enabled z a e ≡ true → Started s e a
+    pub started : (s s′ : ℕ) (e : Input) (a b : Values) → Leads z s a e s′ b → enabled z a e ≡ true → Started s e a
     started s s′ e a b ld t =
         let l = valuation-typed z acyclic wf s a (ld .before) in
         let p = valuation-chosen z acyclic wf s (whole s l) a (ld .before) in

@@ -16,3 +16,4 @@ pub mod Stepping
 pub mod StepFaults
 pub mod Sweeps
 pub mod Checking
+pub mod Asserting
