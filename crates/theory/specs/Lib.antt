@@ -17,3 +17,5 @@ pub mod StepFaults
 pub mod Sweeps
 pub mod Checking
 pub mod Asserting
+pub mod Numbered
+pub mod CheckExactly
