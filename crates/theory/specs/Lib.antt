@@ -19,3 +19,4 @@ pub mod Checking
 pub mod Asserting
 pub mod Numbered
 pub mod CheckExactly
+pub mod Refusals
