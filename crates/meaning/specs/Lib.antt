@@ -17,3 +17,4 @@ pub mod Ordered
 pub mod Valued
 pub mod Moved
 pub mod Passes
+pub mod Reached

@@ -20,3 +20,5 @@ pub mod Asserting
 pub mod Numbered
 pub mod CheckExactly
 pub mod Refusals
+pub mod StepExactly
+pub mod CourseExactly
