@@ -18,3 +18,4 @@ pub mod Valued
 pub mod Moved
 pub mod Passes
 pub mod Reached
+pub mod WrongReadings

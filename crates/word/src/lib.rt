@@ -80,6 +80,7 @@ pub fn truth(w: u32) -> u32
 
 // By kind, the lowest bit that it does not name and how many they are.
 const SPARE_LOW: [u32; 16] = [0, 0, 0, 8, 8, 0, 0, 0, 0, 1, 0, 8, 0, 0, 0, 0];
+
 const SPARE_WIDTH: [u32; 16] = [0, 0, 8, 12, 8, 28, 28, 28, 24, 27, 24, 12, 0, 0, 0, 0];
 
 fn spare_low(k: u32) -> u32
