@@ -4,6 +4,9 @@ ghost use Prim.Native.Nat.{_<_};
 ghost use lib.ListN.{getD};
 ghost use Rattle.word.specs.Fields as F;
 
+// A variable's value. Sizes go to 256.
+pub type Value = u8;
+
 // The `width` bits of w from bit `low` up.
 fn bits(w: u32, low: u32, width: u32) -> u32
     requires { ⌜ (low < 32) × (width < 32) ⌝ }
@@ -70,6 +73,13 @@ pub fn value(w: u32) -> u32
     ensures { λ r. ⌜ r ≡ F.value w ⌝ }
 {
     bits(w, 0, 8)
+}
+
+// The same field as a value.
+pub fn given(w: u32) -> Value
+    ensures { λ r. ⌜ r ≡ F.value w ⌝ }
+{
+    bits(w, 0, 8) as Value
 }
 
 pub fn truth(w: u32) -> u32
