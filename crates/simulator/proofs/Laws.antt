@@ -1,0 +1,195 @@
+-- One law for each way out of the functions of this crate, in the code's own terms.
+use mathlib.Core.Path.{_≡_, refl, sym, ap, _∙_, subst}
+use mathlib.Core.List.{List, [], _∷_}
+use mathlib.Core.Bool.{Bool, true, false}
+use Prim.Native.Nat.{ℕ, zero, suc, _+_, _-_, _≤_, _<_}
+use native.Mathlib.Omega.{arith}
+use native.Mathlib.Numerals.{add-one}
+use lib.ListN.{length, getD, set, length-set, drop, drop-of-length-le, List·getD-eq-default}
+use lib.Seq.{drop-cons, getD-set-same, getD-set-other}
+use lib.Dec.{eqb}
+use borrow.Author.Tests.{ne-eqb, eq-eqb}
+use Rattle.word.specs.Fields as W
+use Rattle.meaning.specs.Answers.{if_then_else_}
+use Rattle.meaning.specs.Reading.{word}
+use Rattle.meaning.specs.States.{Values}
+use Rattle.judge.specs.declared.Got.{Got}
+use Rattle.judge.specs.declared.Got.the-variants.{Nothing, One, Two}
+use Rattle.judge.specs.Judge.{conditionRowsAt, eventRowsAt}
+use Rattle.state.specs.Held.{digitAt}
+use Rattle.simulator.specs.declared.Given.{Given}
+use Rattle.simulator.specs.declared.Given.the-variants as G
+use Rattle.simulator.specs.declared.Settled.{Settled}
+use Rattle.simulator.specs.declared.Settled.the-variants as S
+use Rattle.simulator.specs.Walks.{conditionOf, eventOf, conditionGiven, eventGiven, givenInBy, givenIn, givenAfterBy, givenAfter, Walk, done, at, joined, onward, walk, stateWalk, stepWalk}
+
+-- ---- what a table gives
+module _ (ws b : List ℕ) (w p m y mode : ℕ) (got : Got) (em : m ≡ W.class-read w) (ey : y ≡ getD b m 0) (ex : mode ≡ y)
+    (eg : got ≡ conditionRowsAt ws b mode 64 0 p Nothing) where
+  condition-rows : conditionOf got ≡ conditionGiven ws b w p
+  unfolding conditionGiven
+  condition-rows = rw (eg, ex, ey, em)
+
+  pub condition-gap : got ≡ Nothing → G.Gap ≡ conditionGiven ws b w p
+  unfolding conditionOf
+  condition-gap e = rw e at condition-rows
+
+  pub condition-one : (i k : ℕ) → got ≡ One i k → G.Is k ≡ conditionGiven ws b w p
+  unfolding conditionOf
+  condition-one i k e = rw e at condition-rows
+
+  pub condition-two : (i j : ℕ) → got ≡ Two i j → G.Overlap i j ≡ conditionGiven ws b w p
+  unfolding conditionOf
+  condition-two i j e = rw e at condition-rows
+
+module _ (ws a b : List ℕ) (w p v m y mode old : ℕ) (got : Got) (em : m ≡ W.class-read w) (ey : y ≡ getD a m 0) (ex : mode ≡ y)
+    (eo : old ≡ getD a v 0) (eg : got ≡ eventRowsAt ws a b mode 64 0 p Nothing) where
+  event-rows : eventOf old got ≡ eventGiven ws a b w p v
+  unfolding eventGiven
+  event-rows = rw (eg, ex, ey, em, eo)
+
+  pub event-none : got ≡ Nothing → G.Is old ≡ eventGiven ws a b w p v
+  unfolding eventOf
+  event-none e = rw e at event-rows
+
+  pub event-one : (i k : ℕ) → got ≡ One i k → G.Is k ≡ eventGiven ws a b w p v
+  unfolding eventOf
+  event-one i k e = rw e at event-rows
+
+  pub event-two : (i j : ℕ) → got ≡ Two i j → G.StepOverlap i j ≡ eventGiven ws a b w p v
+  unfolding eventOf
+  event-two i j e = rw e at event-rows
+
+-- ---- by the place of the first row
+in-place : (ws b : List ℕ) (x p : ℕ) → (p ≡ 0 → ⊥)
+    → (if eqb (W.sort (word ws (p - 1))) 3 then (λ _. conditionGiven ws b (word ws (p - 1)) p) else (λ _. G.Is x)) ≡ givenInBy ws b x p
+unfolding givenInBy
+in-place ws b x zero n = absurd (n refl)
+in-place ws b x (suc i) n = let e : suc i - 1 ≡ i = omega arith in rw e
+
+after-place : (ws a b : List ℕ) (x v p : ℕ) → (p ≡ 0 → ⊥)
+    → (if eqb (W.sort (word ws (p - 1))) 3
+    then (λ _. conditionGiven ws b (word ws (p - 1)) p)
+    else (λ _. eventGiven ws a b (word ws (p - 1)) p v)) ≡ givenAfterBy ws a b x v p
+unfolding givenAfterBy
+after-place ws a b x v zero n = absurd (n refl)
+after-place ws a b x v (suc i) n = let e : suc i - 1 ≡ i = omega arith in rw e
+
+module _ (ws ps b : List ℕ) (x v p : ℕ) (ep : p ≡ getD ps v 0) where
+  pub in-none : p ≡ 0 → G.Is x ≡ givenIn ws ps b x v
+  unfolding givenIn givenInBy
+  in-none e = rw (← ep, e)
+
+  pub in-held : (w t : ℕ) → (p ≡ 0 → ⊥) → w ≡ word ws (p - 1) → t ≡ W.sort w → (t ≡ 3 → ⊥) → G.Is x ≡ givenIn ws ps b x v
+  unfolding givenIn
+  in-held w t np ew et n = rw (← ep, ← in-place ws b x p np, ← ew, ← et, ne-eqb t 3 n)
+
+  pub in-condition : (w t : ℕ) (g : Given) → (p ≡ 0 → ⊥) → w ≡ word ws (p - 1) → t ≡ W.sort w → t ≡ 3 → g ≡ conditionGiven ws b w p
+      → g ≡ givenIn ws ps b x v
+  unfolding givenIn
+  in-condition w t g np ew et e3 eg = rw (← ep, ← in-place ws b x p np, ← ew, ← et, e3, eg)
+
+module _ (ws ps a b : List ℕ) (x v p : ℕ) (ep : p ≡ getD ps v 0) where
+  pub after-none : p ≡ 0 → G.Is x ≡ givenAfter ws ps a b x v
+  unfolding givenAfter givenAfterBy
+  after-none e = rw (← ep, e)
+
+  pub after-condition : (w t : ℕ) (g : Given) → (p ≡ 0 → ⊥) → w ≡ word ws (p - 1) → t ≡ W.sort w → t ≡ 3 → g ≡ conditionGiven ws b w p
+      → g ≡ givenAfter ws ps a b x v
+  unfolding givenAfter
+  after-condition w t g np ew et e3 eg = rw (← ep, ← after-place ws a b x v p np, ← ew, ← et, e3, eg)
+
+  pub after-event : (w t : ℕ) (g : Given) → (p ≡ 0 → ⊥) → w ≡ word ws (p - 1) → t ≡ W.sort w → (t ≡ 3 → ⊥)
+      → g ≡ eventGiven ws a b w p v → g ≡ givenAfter ws ps a b x v
+  unfolding givenAfter
+  after-event w t g np ew et n eg = rw (← ep, ← after-place ws a b x v p np, ← ew, ← et, ne-eqb t 3 n, eg)
+
+-- ---- altering one value
+pub altered-other : (a : List ℕ) (u k v r : ℕ) → (v ≡ u → ⊥) → r ≡ getD a v 0 → r ≡ getD (set a u k) v 0
+altered-other a u k v r n e = e ∙ sym (getD-set-other a u v k 0 n)
+
+pub altered-past : (a : List ℕ) (u k v : ℕ) → length a ≤ v → 0 ≡ getD (set a u k) v 0
+altered-past a u k v h = sym (List·getD-eq-default (set a u k) 0 (rw (length-set a u k) h))
+
+pub altered-here : (a : List ℕ) (u k v : ℕ) → v ≡ u → v < length a → k ≡ getD (set a u k) v 0
+altered-here a u k v e h = sym (rw e (getD-set-same a u k 0 (rw e at h)))
+
+pub put-past : (xs : List ℕ) (v k : ℕ) → length xs ≤ v → xs ≡ set xs v k
+put-past [] v k h = refl
+put-past (x ∷ xs) zero k h = let o : ⊥ = omega arith in absurd o
+put-past (x ∷ xs) (suc v) k h = ap (λ (r : List ℕ). x ∷ r) (put-past xs v k (let l : length xs ≤ v = omega arith in l))
+
+pub kept-length : (b c b₀ : List ℕ) (v k : ℕ) → c ≡ set b v k → length b ≡ length b₀ → length c ≡ length b₀
+kept-length b c b₀ v k e l = rw e (length-set b v k ∙ l)
+
+-- ---- walking: what is left from here is the whole
+walk-turn : (f : Values → ℕ → Given) (os b : List ℕ) (i : ℕ) (all : Walk) → walk f (drop i os) b ≡ all → i < length os
+    → onward (getD os i 0) (f b (getD os i 0)) (λ k. walk f (drop (i + 1) os) (set b (getD os i 0) k)) ≡ all
+unfolding walk
+walk-turn f os b i all inv h = rw (add-one i) (rw (drop-cons os i 0 h) at inv)
+
+walk-end : (f : Values → ℕ → Given) (os b : List ℕ) (i : ℕ) (all : Walk) → walk f (drop i os) b ≡ all → length os ≤ i → done b ≡ all
+unfolding walk
+walk-end f os b i all inv h = rw (drop-of-length-le os h) at inv
+
+-- the ways out of a turn, whatever the walk
+module _ (os b : List ℕ) (i : ℕ) (all : Walk) (g : Given) (more : ℕ → Walk) (turn : onward (getD os i 0) g more ≡ all) where
+  turn-gap : g ≡ G.Gap → joined (S.Gap (getD os i 0)) b ≡ all
+  unfolding onward joined
+  turn-gap e = rw e at turn
+
+  turn-overlap : (x y : ℕ) → g ≡ G.Overlap x y → joined (S.Overlap (getD os i 0) x y) b ≡ all
+  unfolding onward joined
+  turn-overlap x y e = rw e at turn
+
+  turn-step : (x y : ℕ) → g ≡ G.StepOverlap x y → joined (S.StepOverlap (getD os i 0) x y) b ≡ all
+  unfolding onward joined
+  turn-step x y e = rw e at turn
+
+  turn-on : (k : ℕ) → g ≡ G.Is k → more k ≡ all
+  unfolding onward
+  turn-on k e = rw e at turn
+
+module _ (ws ps us : List ℕ) (n s : ℕ) (os b : List ℕ) (i : ℕ) (all : Walk) (inv : stateWalk ws ps us n s (drop i os) b ≡ all) where
+  pub state-done : length os ≤ i → joined S.Done b ≡ all
+  unfolding joined stateWalk
+  state-done h = walk-end _ os b i all inv h
+
+  module _ (x : ℕ) (g : Given) (h : i < length os) (ex : x ≡ digitAt ws ps us n s (getD os i 0)) (eg : g ≡ givenIn ws ps b x (getD os i 0)) where
+    state-turn : onward (getD os i 0) g (λ k. stateWalk ws ps us n s (drop (i + 1) os) (set b (getD os i 0) k)) ≡ all
+    unfolding stateWalk
+    state-turn = rw (eg, ex) (walk-turn _ os b i all inv h)
+
+    pub state-gap : g ≡ G.Gap → joined (S.Gap (getD os i 0)) b ≡ all
+    state-gap = turn-gap os b i all g _ state-turn
+
+    pub state-overlap : (x′ y : ℕ) → g ≡ G.Overlap x′ y → joined (S.Overlap (getD os i 0) x′ y) b ≡ all
+    state-overlap = turn-overlap os b i all g _ state-turn
+
+    pub state-step : (x′ y : ℕ) → g ≡ G.StepOverlap x′ y → joined (S.StepOverlap (getD os i 0) x′ y) b ≡ all
+    state-step = turn-step os b i all g _ state-turn
+
+    pub state-on : (k : ℕ) (c : List ℕ) → g ≡ G.Is k → c ≡ set b (getD os i 0) k → stateWalk ws ps us n s (drop (i + 1) os) c ≡ all
+    state-on k c e ec = rw ec (turn-on os b i all g _ state-turn k e)
+
+module _ (ws ps a : List ℕ) (u k₀ : ℕ) (os b : List ℕ) (i : ℕ) (all : Walk) (inv : stepWalk ws ps a u k₀ (drop i os) b ≡ all) where
+  pub step-done : length os ≤ i → joined S.Done b ≡ all
+  unfolding joined stepWalk
+  step-done h = walk-end _ os b i all inv h
+
+  module _ (x : ℕ) (g : Given) (h : i < length os) (ex : x ≡ getD (set a u k₀) (getD os i 0) 0) (eg : g ≡ givenAfter ws ps a b x (getD os i 0)) where
+    step-turn : onward (getD os i 0) g (λ k. stepWalk ws ps a u k₀ (drop (i + 1) os) (set b (getD os i 0) k)) ≡ all
+    unfolding stepWalk
+    step-turn = rw (eg, ex) (walk-turn _ os b i all inv h)
+
+    pub step-gap : g ≡ G.Gap → joined (S.Gap (getD os i 0)) b ≡ all
+    step-gap = turn-gap os b i all g _ step-turn
+
+    pub step-overlap : (x′ y : ℕ) → g ≡ G.Overlap x′ y → joined (S.Overlap (getD os i 0) x′ y) b ≡ all
+    step-overlap = turn-overlap os b i all g _ step-turn
+
+    pub step-step : (x′ y : ℕ) → g ≡ G.StepOverlap x′ y → joined (S.StepOverlap (getD os i 0) x′ y) b ≡ all
+    step-step = turn-step os b i all g _ step-turn
+
+    pub step-on : (k : ℕ) (c : List ℕ) → g ≡ G.Is k → c ≡ set b (getD os i 0) k → stepWalk ws ps a u k₀ (drop (i + 1) os) c ≡ all
+    step-on k c e ec = rw ec (turn-on os b i all g _ step-turn k e)
