@@ -1,13 +1,13 @@
 -- One law for each way out.
 use mathlib.Core.Path.{_≡_, refl, sym, _∙_}
 use mathlib.Core.List.{List}
-use mathlib.Core.Bool.{Bool, true, false, not, _&&_, _||_, cond}
+use mathlib.Core.Bool.{Bool, true, false, not, _&&_, _||_}
 use Prim.Native.Nat.{ℕ, zero, suc, _+_, _-_, _≤_, _<_}
 use native.Mathlib.Omega.{arith}
 use native.Mathlib.Numerals.{sub-one, add-one}
 use lib.ListN.{length, getD}
 use lib.Dec.{eqb, leb}
-use borrow.Author.Tests.{ne-eqb, eq-eqb, le-leb, lt-leb, not-true, not-false}
+use borrow.Author.Tests.{ne-eqb, le-leb, lt-leb, not-true, not-false}
 use Rattle.word.specs.Fields as W
 use Rattle.meaning.specs.Answers.{if_then_else_}
 use Rattle.meaning.specs.Reading.{word, testBy, testOf}
@@ -15,10 +15,11 @@ use Rattle.meaning.specs.Steps.{true-in, modeIs}
 use Rattle.judge.specs.declared.Judged.{Judged}
 use Rattle.judge.specs.declared.Got.{Got}
 use Rattle.judge.specs.declared.Got.the-variants.{Nothing, One, Two}
-use Rattle.judge.specs.Judge.{joinedBy, judgeBy, judgeAt, changedBy, changeBy, changeAt, judgeEventBy, judgeEventAt, addRow, rowsAt, conditionRowsAt, eventRowsAt}
+use Rattle.judge.specs.Judge.{joinedBy, judgeBy, judgeAt, changedBy, changeBy, changeAt, judgeEventBy, judgeEventAt, addRow, rowsAt}
 
 -- ---- a test word
-module _ (b : List ℕ) (w v x k t : ℕ) (ev : v ≡ W.variable w) (ex : x ≡ getD b v 0) (ek : k ≡ W.value w) (et : t ≡ W.relation w) where
+module _ (b : List ℕ) (w v x k t : ℕ) (ev : v ≡ W.variable w) (ex : x ≡ getD b v 0) (ek : k ≡ W.value w)
+    (et : t ≡ W.relation w) where
   pub test-equal : t ≡ 0 → eqb x k ≡ true-in b (testOf w)
   unfolding testOf testBy true-in
   test-equal e = rw (ex, ev, ek, ← et, e)
@@ -54,7 +55,8 @@ unfolding judgeAt
 judge-unroll ws b zero at nz h = absurd (nz refl)
 judge-unroll ws b (suc n) at nz h = rw (h, sub-one (suc n))
 
-module _ (ws b : List ℕ) (n at w k : ℕ) (nz : n ≡ 0 → ⊥) (h : at < length ws) (ew : w ≡ word ws at) (ek : k ≡ W.kind w) where
+module _ (ws b : List ℕ) (n at w k : ℕ) (nz : n ≡ 0 → ⊥) (h : at < length ws)
+    (ew : w ≡ word ws at) (ek : k ≡ W.kind w) where
   judge-arm : (r : Judged) → r ≡ judgeBy b (judgeAt ws b (n - 1)) w at → r ≡ judgeAt ws b n at
   judge-arm r e = e ∙ rw ew (judge-unroll ws b n at nz (lt-leb (length ws) at h))
 
@@ -115,7 +117,8 @@ unfolding judgeEventAt
 event-unroll ws a b zero at nz h = absurd (nz refl)
 event-unroll ws a b (suc n) at nz h = rw (h, sub-one (suc n))
 
-module _ (ws a b : List ℕ) (n at w k : ℕ) (nz : n ≡ 0 → ⊥) (h : at < length ws) (ew : w ≡ word ws at) (ek : k ≡ W.kind w) where
+module _ (ws a b : List ℕ) (n at w k : ℕ) (nz : n ≡ 0 → ⊥) (h : at < length ws)
+    (ew : w ≡ word ws at) (ek : k ≡ W.kind w) where
   event-arm : (r : Judged) → r ≡ judgeEventBy (judgeEventAt ws a b (n - 1)) (changeAt ws a b (n - 1)) w at
       → r ≡ judgeEventAt ws a b n at
   event-arm r e = e ∙ rw ew (event-unroll ws a b n at nz (lt-leb (length ws) at h))
@@ -129,7 +132,8 @@ module _ (ws a b : List ℕ) (n at w k : ℕ) (nz : n ≡ 0 → ⊥) (h : at < l
   unfolding judgeEventBy
   event-or c d e ec ed = event-arm _ (rw (← ek, e, ed, ec, add-one at))
 
-  pub event-change : (r : Judged) → (k ≡ 9 → ⊥) → (k ≡ 7 → ⊥) → r ≡ changeAt ws a b (n - 1) w (at + 1) → r ≡ judgeEventAt ws a b n at
+  pub event-change : (r : Judged) → (k ≡ 9 → ⊥) → (k ≡ 7 → ⊥) → r ≡ changeAt ws a b (n - 1) w (at + 1)
+      → r ≡ judgeEventAt ws a b n at
   unfolding judgeEventBy
   event-change r n9 n7 er = event-arm r (rw (← ek, ne-eqb k 9 n9, ne-eqb k 7 n7, er, add-one at))
 
@@ -159,8 +163,8 @@ module _ (g : Got) (h : Bool) (i k : ℕ) (e : not h ≡ false) where
 
 pub ruleset add-laws = (add-no, add-first, add-second, add-third)
 
-pub with-law : (g r : Got) (w q x i k : ℕ) (t m : Bool) → q ≡ W.mode w → m ≡ modeIs q x → k ≡ W.value w → r ≡ addRow g (m && t) i k
-    → r ≡ addRow g (modeIs (W.mode w) x && t) i (W.value w)
+pub with-law : (g r : Got) (w q x i k : ℕ) (t m : Bool) → q ≡ W.mode w → m ≡ modeIs q x → k ≡ W.value w
+    → r ≡ addRow g (m && t) i k → r ≡ addRow g (modeIs (W.mode w) x && t) i (W.value w)
 with-law g r w q x i k t m eq em ek er = rw (er, em, eq, ek)
 
 pub row-law : (ws : List ℕ) (w k at : ℕ) → w ≡ word ws at → k ≡ W.kind w → eqb k 3 ≡ eqb (W.kind (word ws at)) 3
@@ -169,14 +173,14 @@ row-law ws w k at ew ek = rw (ek, ew)
 left : (n i : ℕ) → i < n → n - i ≡ suc (n - (i + 1))
 left n i h = omega arith
 
--- what f judges, for the conditions of a state and for the events of a step
+-- f judges a row's formula: the conditions of a state, or the events of a step
 module _ (ws : List ℕ) (f : ℕ → Judged) (x : ℕ) where
   rows-past : (l i p : ℕ) (g : Got) → leb (length ws) p ≡ true → rowsAt ws f x l i p g ≡ g
   unfolding rowsAt
   rows-past zero i p g e = refl
   rows-past (suc l) i p g e = rw e
 
-  pub rows-step : (l i p : ℕ) (g : Got) → leb (length ws) p ≡ false → rowsAt ws f x (suc l) i p g
+  rows-step : (l i p : ℕ) (g : Got) → leb (length ws) p ≡ false → rowsAt ws f x (suc l) i p g
       ≡ (if eqb (W.kind (word ws (f (suc p) .next))) 3
       then (λ _. rowsAt ws f x l (suc i) (f (suc p) .next)
       (addRow g (modeIs (W.mode (word ws p)) x && f (suc p) .value) i (W.value (word ws p))))
@@ -192,7 +196,8 @@ module _ (ws : List ℕ) (f : ℕ → Judged) (x : ℕ) where
     unfolding rowsAt
     rows-all h = let z : 64 - i ≡ 0 = omega arith in rw z at inv
 
-    module _ (w : ℕ) (j : Judged) (r : Got) (q : Bool) (h : i < 64) (hl : on < length ws) (ej : j ≡ f (on + 1)) (ew : w ≡ word ws on)
+    module _ (w : ℕ) (j : Judged) (r : Got) (q : Bool) (h : i < 64) (hl : on < length ws)
+        (ej : j ≡ f (on + 1)) (ew : w ≡ word ws on)
         (er : r ≡ addRow g (modeIs (W.mode w) x && j .value) i (W.value w)) (eq : q ≡ eqb (W.kind (word ws (j .next))) 3) where
       turn : (if q then (λ _. rowsAt ws f x (64 - (i + 1)) (i + 1) (j .next) r) else (λ _. r)) ≡ all
       turn =

@@ -18,6 +18,11 @@ ghost use Rattle.meaning.specs.Reading.{word, testOf};
 ghost use Rattle.meaning.specs.Steps.{true-in, modeIs};
 ghost use Rattle.judge.specs.Judge.{joinedBy, judgeAt, changedBy, changeAt, judgeEventAt, addRow, conditionRowsAt, eventRowsAt};
 
+// The most that reading lets through: rows of a table, and levels of a formula.
+const MAX_ROWS: usize = 64;
+
+const MAX_DEPTH: usize = 16;
+
 // A formula's truth, and the place after it.
 pub struct Judged {
     pub value: bool,
@@ -213,11 +218,11 @@ pub fn condition_rows(words: &[u32], values: &[Value], mode: u32, at: usize) -> 
 {
     let mut got = Got::Nothing;
     let mut on = at;
-    for i in 0..64usize {
+    for i in 0..MAX_ROWS {
         if words.len() <= on {
             return got;
         }
-        let j = judge(words, values, on + 1, 16);
+        let j = judge(words, values, on + 1, MAX_DEPTH);
         let w = word_at(words, on);
         got = with_row(got, w, mode, j.value, i);
         on = j.next;
@@ -234,11 +239,11 @@ pub fn event_rows(words: &[u32], before: &[Value], after: &[Value], mode: u32, a
 {
     let mut got = Got::Nothing;
     let mut on = at;
-    for i in 0..64usize {
+    for i in 0..MAX_ROWS {
         if words.len() <= on {
             return got;
         }
-        let j = judge_event(words, before, after, on + 1, 16);
+        let j = judge_event(words, before, after, on + 1, MAX_DEPTH);
         let w = word_at(words, on);
         got = with_row(got, w, mode, j.value, i);
         on = j.next;

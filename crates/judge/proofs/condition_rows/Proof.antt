@@ -14,57 +14,59 @@ use Rattle.judge.proofs.judge.Reads as judge-reads
 use Rattle.judge.proofs.with_row.Reads as with-row-reads
 
 abbrev Inv-loop : tie.InvT-loop
-Inv-loop words values mode at got₀ on₀ i₀ got on i = (i ≤ 64) × (rowsAt words (judgeAt words values 16) mode (64 - i) i on got ≡ conditionRowsAt words values mode 64 0 at Nothing)
+Inv-loop words values mode at got₀ on₀ i₀ got on i =
+    (i ≤ 64)
+    × (rowsAt words (judgeAt words values 16) mode (64 - i) i on got ≡ conditionRowsAt words values mode 64 0 at Nothing)
 
 abbrev μ-loop : tie.MeasureT-loop
 μ-loop words values mode at got₀ on₀ i₀ got on i = 64 - i
 
--- src/lib.rt:166:5
+-- src/lib.rt:221:5
 loop-holds : tie.Need-loop-holds Inv-loop μ-loop
 unfolding conditionRowsAt
 loop-holds c = (search needs, refl)
 
--- src/lib.rt:168:13
+-- src/lib.rt:223:13
 returns : tie.Need-returns Inv-loop μ-loop
 returns c = search rows-out
 
--- src/lib.rt:170:38
+-- src/lib.rt:225:38
 add-judge : tie.Need-add-judge Inv-loop μ-loop
 add-judge c = search needs
 
--- src/lib.rt:170:13
+-- src/lib.rt:225:13
 judge-requires : tie.Need-judge-requires Inv-loop μ-loop
 judge-requires c κs = search needs
 
--- src/lib.rt:171:13
+-- src/lib.rt:226:13
 word-at-requires : tie.Need-word-at-requires Inv-loop μ-loop
 word-at-requires c κs = search needs
 
--- src/lib.rt:172:9
+-- src/lib.rt:227:9
 with-row-requires : tie.Need-with-row-requires Inv-loop μ-loop
 with-row-requires c κs = search needs
 
--- src/lib.rt:174:13
+-- src/lib.rt:229:13
 is-row-requires : tie.Need-is-row-requires Inv-loop μ-loop
 is-row-requires c κs = search needs
 
--- src/lib.rt:175:13
+-- src/lib.rt:230:13
 returns-2 : tie.Need-returns-2 Inv-loop μ-loop
 returns-2 c = search rows-end
 
--- src/lib.rt:166:9
+-- src/lib.rt:221:9
 add-i : tie.Need-add-i Inv-loop μ-loop
 add-i c = search needs
 
--- src/lib.rt:166:5
+-- src/lib.rt:221:5
 loop-less : tie.Need-loop-less Inv-loop μ-loop
 loop-less c = search needs
 
--- src/lib.rt:166:5
+-- src/lib.rt:221:5
 loop-again : tie.Need-loop-again Inv-loop μ-loop
 loop-again c = (search needs, search rows-on)
 
--- src/lib.rt:161:1
+-- src/lib.rt:216:1
 returns-3 : tie.Need-returns-3 Inv-loop μ-loop
 returns-3 c = search rows-all
 

@@ -14,57 +14,59 @@ use Rattle.judge.proofs.judge_event.Reads as judge-event-reads
 use Rattle.judge.proofs.with_row.Reads as with-row-reads
 
 abbrev Inv-loop : tie.InvT-loop
-Inv-loop words before after mode at got₀ on₀ i₀ got on i = (i ≤ 64) × (rowsAt words (judgeEventAt words before after 16) mode (64 - i) i on got ≡ eventRowsAt words before after mode 64 0 at Nothing)
+Inv-loop words before after mode at got₀ on₀ i₀ got on i =
+    (i ≤ 64)
+    × (rowsAt words (judgeEventAt words before after 16) mode (64 - i) i on got ≡ eventRowsAt words before after mode 64 0 at Nothing)
 
 abbrev μ-loop : tie.MeasureT-loop
 μ-loop words before after mode at got₀ on₀ i₀ got on i = 64 - i
 
--- src/lib.rt:187:5
+-- src/lib.rt:242:5
 loop-holds : tie.Need-loop-holds Inv-loop μ-loop
 unfolding eventRowsAt
 loop-holds c = (search needs, refl)
 
--- src/lib.rt:189:13
+-- src/lib.rt:244:13
 returns : tie.Need-returns Inv-loop μ-loop
 returns c = search rows-out
 
--- src/lib.rt:191:51
+-- src/lib.rt:246:51
 add-judge-event : tie.Need-add-judge-event Inv-loop μ-loop
 add-judge-event c = search needs
 
--- src/lib.rt:191:13
+-- src/lib.rt:246:13
 judge-event-requires : tie.Need-judge-event-requires Inv-loop μ-loop
 judge-event-requires c κs = search needs
 
--- src/lib.rt:192:13
+-- src/lib.rt:247:13
 word-at-requires : tie.Need-word-at-requires Inv-loop μ-loop
 word-at-requires c κs = search needs
 
--- src/lib.rt:193:9
+-- src/lib.rt:248:9
 with-row-requires : tie.Need-with-row-requires Inv-loop μ-loop
 with-row-requires c κs = search needs
 
--- src/lib.rt:195:13
+-- src/lib.rt:250:13
 is-row-requires : tie.Need-is-row-requires Inv-loop μ-loop
 is-row-requires c κs = search needs
 
--- src/lib.rt:196:13
+-- src/lib.rt:251:13
 returns-2 : tie.Need-returns-2 Inv-loop μ-loop
 returns-2 c = search rows-end
 
--- src/lib.rt:187:9
+-- src/lib.rt:242:9
 add-i : tie.Need-add-i Inv-loop μ-loop
 add-i c = search needs
 
--- src/lib.rt:187:5
+-- src/lib.rt:242:5
 loop-less : tie.Need-loop-less Inv-loop μ-loop
 loop-less c = search needs
 
--- src/lib.rt:187:5
+-- src/lib.rt:242:5
 loop-again : tie.Need-loop-again Inv-loop μ-loop
 loop-again c = (search needs, search rows-on)
 
--- src/lib.rt:182:1
+-- src/lib.rt:237:1
 returns-3 : tie.Need-returns-3 Inv-loop μ-loop
 returns-3 c = search rows-all
 
