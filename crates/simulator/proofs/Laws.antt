@@ -1,27 +1,33 @@
 -- One law for each way out of the functions of this crate, in the code's own terms.
 use mathlib.Core.Path.{_≡_, refl, sym, ap, _∙_, subst}
 use mathlib.Core.List.{List, [], _∷_}
-use mathlib.Core.Bool.{Bool, true, false}
-use Prim.Native.Nat.{ℕ, zero, suc, _+_, _-_, _≤_, _<_}
+use mathlib.Core.Bool.{Bool, true, false, not}
+use Prim.Native.Nat.{ℕ, zero, suc, _+_, _-_, _%_, _≤_, _<_}
 use native.Mathlib.Omega.{arith}
 use native.Mathlib.Numerals.{add-one}
-use lib.ListN.{length, getD, set, length-set, drop, drop-of-length-le, List·getD-eq-default}
-use lib.Seq.{drop-cons, getD-set-same, getD-set-other}
+use lib.ListN.{length, getD, set, length-set, take, drop, drop-of-length-le, List·getD-eq-default}
+use lib.Seq.{drop-cons, getD-set-same, getD-set-other, take-all, take-suc-set, take-suc}
 use lib.Dec.{eqb}
-use borrow.Author.Tests.{ne-eqb, eq-eqb}
+use borrow.Author.Tests.{ne-eqb, eq-eqb, not-true, not-false}
 use Rattle.word.specs.Fields as W
-use Rattle.meaning.specs.Answers.{if_then_else_}
+use Rattle.meaning.specs.Answers.{Outcome, ok, refuse, _>>=_, demand, if_then_else_}
+use Rattle.meaning.specs.Searches.{listOf}
+use Rattle.theory.specs.Numbers.{length-listOf}
+use Rattle.meaning.specs.Steps.{Input, inputOf}
 use Rattle.meaning.specs.Reading.{word}
 use Rattle.meaning.specs.States.{Values}
 use Rattle.judge.specs.declared.Got.{Got}
 use Rattle.judge.specs.declared.Got.the-variants.{Nothing, One, Two}
 use Rattle.judge.specs.Judge.{conditionRowsAt, eventRowsAt}
-use Rattle.state.specs.Held.{digitAt}
+use Rattle.state.specs.Held.{digitAt, numberAt, enabledAt}
+use Rattle.simulator.specs.declared.Stepped.{Stepped}
+use Rattle.simulator.specs.declared.Stepped.the-variants as R
+use Rattle.simulator.specs.StepIndex.{steppedSays, afterIndex, stepIndex}
 use Rattle.simulator.specs.declared.Given.{Given}
 use Rattle.simulator.specs.declared.Given.the-variants as G
 use Rattle.simulator.specs.declared.Settled.{Settled}
 use Rattle.simulator.specs.declared.Settled.the-variants as S
-use Rattle.simulator.specs.Walks.{conditionOf, eventOf, conditionGiven, eventGiven, givenInBy, givenIn, givenAfterBy, givenAfter, Walk, done, at, joined, onward, walk, stateWalk, stepWalk}
+use Rattle.simulator.specs.Walks.{conditionOf, eventOf, conditionGiven, eventGiven, givenInBy, givenIn, givenAfterBy, givenAfter, Walk, done, at, joined, onward, walk, stateWalk, stepWalk, walkSays, settledSays}
 
 -- ---- what a table gives
 module _ (ws b : List ℕ) (w p m y mode : ℕ) (got : Got) (em : m ≡ W.class-read w) (ey : y ≡ getD b m 0) (ex : mode ≡ y)
@@ -193,3 +199,92 @@ module _ (ws ps a : List ℕ) (u k₀ : ℕ) (os b : List ℕ) (i : ℕ) (all : 
 
     pub step-on : (k : ℕ) (c : List ℕ) → g ≡ G.Is k → c ≡ set b (getD os i 0) k → stepWalk ws ps a u k₀ (drop (i + 1) os) c ≡ all
     step-on k c e ec = rw ec (turn-on os b i all g _ step-turn k e)
+
+-- ---- values of a state, whole
+pub values-are : (ws ps us : List ℕ) (n s : ℕ) (os b c : List ℕ) (k : ℕ) (r : Settled) → b ≡ listOf (digitAt ws ps us n s) k
+    → joined r c ≡ stateWalk ws ps us n s os b → joined r c ≡ stateWalk ws ps us n s os (listOf (digitAt ws ps us n s) k)
+values-are ws ps us n s os b c k r eb e = e ∙ ap (stateWalk ws ps us n s os) eb
+
+pub values-long : (f : ℕ → ℕ) (b c : List ℕ) (k : ℕ) → b ≡ listOf f k → length c ≡ length b → length c ≡ k
+values-long f b c k eb e = e ∙ ap length eb ∙ length-listOf f k
+
+-- ---- copying
+pub copy-on : (from to : List ℕ) (i n m : ℕ) → i < n → n ≡ m → length to ≡ m → length from ≡ m → take i to ≡ take i from
+    → take (i + 1) (set to i (getD from i 0)) ≡ take (i + 1) from
+copy-on from to i n m h en lt lf e =
+    let l : i < length from = omega arith in
+    let k : i < length to = omega arith in
+    rw (add-one i, take-suc-set to i (getD from i 0) k, e) (sym (take-suc from i 0 l))
+
+pub copy-all : (from to : List ℕ) (i n m : ℕ) → n ≤ i → n ≡ m → length to ≡ m → length from ≡ m → take i to ≡ take i from → to ≡ from
+copy-all from to i n m h en lt lf e = sym (take-all i to (omega arith)) ∙ e ∙ take-all i from (omega arith)
+
+-- ---- the step
+pub state-is : (ws ps us b : List ℕ) (n t : ℕ) → t ≡ numberAt ws ps us b n → R.State (t % 4294967296) ≡ R.State (numberAt ws ps us b n % 4294967296)
+state-is ws ps us b n t e = rw e
+
+-- what a walk that ended says
+said : (side s : ℕ) (e : Input) (r : Settled) (b : Values) (all : Walk) → joined r b ≡ all → walkSays side s e all ≡ settledSays side s e b r
+unfolding joined walkSays settledSays
+said side s e S.Done b all p = rw (← p)
+said side s e (S.Gap v) b all p = rw (← p)
+said side s e (S.Overlap v i j) b all p = rw (← p)
+said side s e (S.StepOverlap v i j) b all p = rw (← p)
+
+-- from the values a: b is their copy, c what settling left
+module _ (ws ps us os a b c : List ℕ) (n w v k : ℕ) (r : Settled) (eb : b ≡ a) (ev : v ≡ W.variable w) (ek : k ≡ W.value w)
+    (er : joined r c ≡ stepWalk ws ps a v k os b) where
+  after-says : (s : ℕ) → afterIndex ws ps us os n s w a
+      ≡ (settledSays 1 s (inputOf w) c r >>= λ d. ok (numberAt ws ps us d n % 4294967296))
+  unfolding afterIndex
+  after-says s = rw (← ek, ← ev, said 1 s (inputOf w) r c (stepWalk ws ps a v k os a) (er ∙ ap (stepWalk ws ps a v k os) eb))
+
+  pub after-gap : (u : ℕ) → r ≡ S.Gap u → (s : ℕ) → steppedSays s (inputOf w) (R.Gap 1 u) ≡ afterIndex ws ps us os n s w a
+  unfolding steppedSays settledSays
+  after-gap u e s = sym (after-says s ∙ rw e)
+
+  pub after-overlap : (u i j : ℕ) → r ≡ S.Overlap u i j → (s : ℕ) → steppedSays s (inputOf w) (R.Overlap 1 u i j) ≡ afterIndex ws ps us os n s w a
+  unfolding steppedSays settledSays
+  after-overlap u i j e s = sym (after-says s ∙ rw e)
+
+  pub after-step : (u i j : ℕ) → r ≡ S.StepOverlap u i j → (s : ℕ) → steppedSays s (inputOf w) (R.StepOverlap u i j) ≡ afterIndex ws ps us os n s w a
+  unfolding steppedSays settledSays
+  after-step u i j e s = sym (after-says s ∙ rw e)
+
+  pub after-done : (t : Stepped) → r ≡ S.Done → length c ≡ length b → t ≡ R.State (numberAt ws ps us c (length c) % 4294967296)
+      → n ≡ length a → (s : ℕ) → steppedSays s (inputOf w) t ≡ afterIndex ws ps us os n s w a
+  unfolding steppedSays settledSays
+  after-done t e len et en s =
+      let l : length c ≡ n = len ∙ ap length eb ∙ sym en in
+      rw et (rw l (sym (after-says s ∙ rw e)))
+
+-- from state s: a is what working out its values left
+module _ (ws ps us os : List ℕ) (n i s w : ℕ) (on : Bool) (eo : on ≡ enabledAt ws ps us n s w) where
+  pub not-enabled : not on ≡ true → steppedSays s (inputOf w) (R.NotEnabled i) ≡ stepIndex ws ps us os n i s w
+  unfolding steppedSays stepIndex
+  not-enabled f = rw (← eo, not-true on f)
+
+  module _ (a : List ℕ) (m : ℕ) (r : Settled) (f : not on ≡ false) (em : m ≡ n)
+      (er : joined r a ≡ stateWalk ws ps us n s os (listOf (digitAt ws ps us n s) m)) where
+    from-says : stepIndex ws ps us os n i s w ≡ (settledSays 0 s (inputOf w) a r >>= λ d. afterIndex ws ps us os n s w d)
+    unfolding stepIndex
+    from-says =
+        rw (← eo, not-false on f)
+        (rw (said 0 s (inputOf w) r a (stateWalk ws ps us n s os (listOf (digitAt ws ps us n s) n)) (rw em at er)))
+
+    pub from-gap : (u : ℕ) → r ≡ S.Gap u → steppedSays s (inputOf w) (R.Gap 0 u) ≡ stepIndex ws ps us os n i s w
+    unfolding steppedSays settledSays
+    from-gap u e = sym (from-says ∙ rw e)
+
+    pub from-overlap : (u x y : ℕ) → r ≡ S.Overlap u x y → steppedSays s (inputOf w) (R.Overlap 0 u x y) ≡ stepIndex ws ps us os n i s w
+    unfolding steppedSays settledSays
+    from-overlap u x y e = sym (from-says ∙ rw e)
+
+    pub from-step : (u x y : ℕ) → r ≡ S.StepOverlap u x y → steppedSays s (inputOf w) (R.StepOverlap u x y) ≡ stepIndex ws ps us os n i s w
+    unfolding steppedSays settledSays
+    from-step u x y e = sym (from-says ∙ rw e)
+
+    pub from-done : (t : Stepped) → r ≡ S.Done → length a ≡ m
+        → ((s : ℕ) → steppedSays s (inputOf w) t ≡ afterIndex ws ps us os (length a) s w a) → steppedSays s (inputOf w) t ≡ stepIndex ws ps us os n i s w
+    unfolding settledSays
+    from-done t e la h = let l : length a ≡ n = la ∙ em in (rw l at (h s)) ∙ sym (from-says ∙ rw e)

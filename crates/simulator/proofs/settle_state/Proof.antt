@@ -48,7 +48,7 @@ same-length c = search needs
 
 -- src/lib.rt:124:27
 returns : tie.Need-returns Inv-loop μ-loop
-returns c = search state-gap
+returns c = (search state-gap, search needs)
 
 -- src/lib.rt:125:28
 enum-known-g : tie.Need-enum-known-g Inv-loop μ-loop
@@ -60,7 +60,7 @@ same-length-2 c = search needs
 
 -- src/lib.rt:125:37
 returns-2 : tie.Need-returns-2 Inv-loop μ-loop
-returns-2 c = search state-overlap
+returns-2 c = (search state-overlap, search needs)
 
 -- src/lib.rt:126:32
 enum-known-g-2 : tie.Need-enum-known-g-2 Inv-loop μ-loop
@@ -72,7 +72,7 @@ same-length-3 c = search needs
 
 -- src/lib.rt:126:41
 returns-3 : tie.Need-returns-3 Inv-loop μ-loop
-returns-3 c = search state-step
+returns-3 c = (search state-step, search needs)
 
 -- src/lib.rt:127:23
 enum-known-g-3 : tie.Need-enum-known-g-3 Inv-loop μ-loop
@@ -100,7 +100,7 @@ same-length-4 c = search needs
 
 -- src/lib.rt:116:1
 returns-4 : tie.Need-returns-4 Inv-loop μ-loop
-returns-4 c = search state-done
+returns-4 c = (search state-done, search needs)
 
 pub settle-state-spec : {M : Type 1} → statement M
 settle-state-spec =

@@ -48,7 +48,7 @@ same-length c = search needs
 
 -- src/lib.rt:142:27
 returns : tie.Need-returns Inv-loop μ-loop
-returns c = search step-gap
+returns c = (search step-gap, search needs)
 
 -- src/lib.rt:143:28
 enum-known-g : tie.Need-enum-known-g Inv-loop μ-loop
@@ -60,7 +60,7 @@ same-length-2 c = search needs
 
 -- src/lib.rt:143:37
 returns-2 : tie.Need-returns-2 Inv-loop μ-loop
-returns-2 c = search step-overlap
+returns-2 c = (search step-overlap, search needs)
 
 -- src/lib.rt:144:32
 enum-known-g-2 : tie.Need-enum-known-g-2 Inv-loop μ-loop
@@ -72,7 +72,7 @@ same-length-3 c = search needs
 
 -- src/lib.rt:144:41
 returns-3 : tie.Need-returns-3 Inv-loop μ-loop
-returns-3 c = search step-step
+returns-3 c = (search step-step, search needs)
 
 -- src/lib.rt:145:23
 enum-known-g-3 : tie.Need-enum-known-g-3 Inv-loop μ-loop
@@ -100,7 +100,7 @@ same-length-4 c = search needs
 
 -- src/lib.rt:134:1
 returns-4 : tie.Need-returns-4 Inv-loop μ-loop
-returns-4 c = search step-done
+returns-4 c = (search step-done, search needs)
 
 pub settle-step-spec : {M : Type 1} → statement M
 settle-step-spec =
