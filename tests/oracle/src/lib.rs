@@ -1,11 +1,15 @@
 //! A second checker for sets of SCR mode tables, written from document 01 alone, so that two may be compared.
 
 pub mod answer;
+pub mod judge;
 pub mod limits;
 pub mod order;
 pub mod parse;
 pub mod read;
 pub mod refusal;
+pub mod simulate;
+pub mod state;
+pub mod step;
 pub mod syntax;
 pub mod word;
 pub mod write;
@@ -13,3 +17,4 @@ pub mod write;
 pub use answer::Answer;
 pub use read::{read, Set};
 pub use refusal::Refusal;
+pub use simulate::{run, start, step};
