@@ -1,6 +1,7 @@
 //! A second checker for sets of SCR mode tables, written from document 01 alone, so that two may be compared.
 
 pub mod answer;
+pub mod check;
 pub mod judge;
 pub mod limits;
 pub mod order;
@@ -10,11 +11,14 @@ pub mod refusal;
 pub mod simulate;
 pub mod state;
 pub mod step;
+pub mod sweep;
 pub mod syntax;
 pub mod word;
 pub mod write;
 
 pub use answer::Answer;
+pub use check::check;
 pub use read::{read, Set};
 pub use refusal::Refusal;
 pub use simulate::{run, start, step};
+pub use sweep::check_fast;
