@@ -5,7 +5,11 @@ use crate::refusal::Refusal;
 #[derive(Clone, Debug, PartialEq, Eq)]
 pub enum Answer {
     /// The numbers of states, of steps tried and of assertions.
-    Pass { states: u32, steps: u64, assertions: u32 },
+    Pass {
+        states: u32,
+        steps: u64,
+        assertions: u32,
+    },
     State(u32),
     /// The number of bytes written.
     Values(usize),

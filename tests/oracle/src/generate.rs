@@ -1,6 +1,7 @@
 //! Random sets and calls by seed.
 
 pub mod aimed;
+pub mod assertions;
 pub mod bounds;
 pub mod calls;
 pub mod damage;
@@ -9,13 +10,15 @@ pub mod formula;
 pub mod lawful;
 pub mod near;
 pub mod program;
+pub mod set_faults;
 pub mod shape;
 pub mod small;
 pub mod wild;
+pub mod word_faults;
 
 use crate::check::typed_steps;
 use crate::random::Random;
-use crate::read::Set;
+use crate::read::{read, Set};
 use crate::write;
 
 /// The generator itself checks a set, to see whether it hit its aim, only if the set has at most so many steps.
@@ -33,15 +36,39 @@ pub fn nth_set(seed: u64, index: u64) -> Vec<u32> {
 /// Any set.
 pub fn set(random: &mut Random) -> Vec<u32> {
     match random.below(100) {
-        0..=35 => write::sheet(&lawful::sheet(random)),
-        36..=41 => write::sheet(&wild::sheet(random)),
-        42..=49 => near_set(random),
-        50..=77 => aimed::any(random),
-        78..=80 => bounds::within(random),
-        81..=82 => bounds::over_otherwise(random),
-        83..=97 => damaged(random),
+        0..=31 => write::sheet(&lawful::sheet(random)),
+        32..=33 => with_spare_bit(random),
+        34..=39 => write::sheet(&wild::sheet(random)),
+        40..=48 => near_set(random),
+        49..=76 => aimed::any(random),
+        77..=79 => bounds::within(random),
+        80..=81 => bounds::over_otherwise(random),
+        82..=83 => several_faults(random),
+        84..=86 => two_faults_of_a_word(random),
+        87..=98 => damaged(random),
         _ => wild::noise(random),
     }
+}
+
+fn with_spare_bit(random: &mut Random) -> Vec<u32> {
+    let sheet = lawful::sheet(random);
+    word_faults::spare_bit(random, write::sheet(&sheet))
+}
+
+fn several_faults(random: &mut Random) -> Vec<u32> {
+    let sheet = lawful::sheet(random);
+    let words = write::sheet(&set_faults::several(random, sheet.clone()));
+    // Without a fault the set may have grown too large to be tried often.
+    if read(&words).is_ok() {
+        return write::sheet(&sheet);
+    }
+    words
+}
+
+fn two_faults_of_a_word(random: &mut Random) -> Vec<u32> {
+    let number = random.between(3, 5) as u32;
+    let words = aimed::aimed_at(random, number);
+    word_faults::second_fault(random, words)
 }
 
 /// Any set that reads, but for a few.

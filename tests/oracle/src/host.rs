@@ -26,7 +26,7 @@ pub fn host_step(bytes: &[u8], state: u32, event: u32) -> u32 {
 }
 
 fn words(bytes: &[u8]) -> Option<Vec<u32>> {
-    let whole = bytes.len() % 4 == 0;
+    let whole = bytes.len().is_multiple_of(4);
     let fits = bytes.len() <= 4 * limits::WORDS;
     (whole && fits).then(|| bytes::from_bytes(bytes).collect())
 }

@@ -56,8 +56,7 @@ pub fn dependency_order(sheet: &Sheet) -> Result<Vec<usize>, Refusal> {
     let reads: Vec<BTreeSet<usize>> = (0..count).map(|variable| reads(sheet, variable)).collect();
     let mut order: Vec<usize> = Vec::new();
     // The lowest untaken variable whose reads are all taken.
-    while let Some(next) =
-        (0..count).find(|v| !order.contains(v) && reads[*v].iter().all(|read| order.contains(read)))
+    while let Some(next) = (0..count).find(|v| !order.contains(v) && reads[*v].iter().all(|read| order.contains(read)))
     {
         order.push(next);
     }

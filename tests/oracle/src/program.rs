@@ -24,7 +24,7 @@ pub fn program(input: &[u8]) -> Vec<u8> {
 /// The first 8,192 words; a broken last word is one more, of value 0.
 fn input_words(input: &[u8]) -> Vec<u32> {
     let mut words: Vec<u32> = bytes::from_bytes(input).collect();
-    if input.len() % 4 != 0 {
+    if !input.len().is_multiple_of(4) {
         words.push(0);
     }
     words.truncate(limits::PROGRAM_WORDS);

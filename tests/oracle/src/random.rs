@@ -13,11 +13,11 @@ impl Random {
 
     /// The numbers of one item of a series, so that any item can be made without those before it.
     pub fn of_item(seed: u64, index: u64) -> Random {
-        let first = Random::new(seed).next();
-        Random::new(Random::new(first ^ index).next())
+        let first = Random::new(seed).draw();
+        Random::new(Random::new(first ^ index).draw())
     }
 
-    pub fn next(&mut self) -> u64 {
+    pub fn draw(&mut self) -> u64 {
         self.state = self.state.wrapping_add(0x9E37_79B9_7F4A_7C15);
         let mut mixed = self.state;
         mixed = (mixed ^ (mixed >> 30)).wrapping_mul(0xBF58_476D_1CE4_E5B9);
@@ -27,7 +27,7 @@ impl Random {
 
     /// A number below a bound; 0 for the bound 0.
     pub fn below(&mut self, bound: usize) -> usize {
-        ((u128::from(self.next()) * bound as u128) >> 64) as usize
+        ((u128::from(self.draw()) * bound as u128) >> 64) as usize
     }
 
     /// A number from a first to a last, both included.
@@ -44,7 +44,7 @@ impl Random {
     }
 
     pub fn word(&mut self) -> u32 {
-        (self.next() >> 32) as u32
+        (self.draw() >> 32) as u32
     }
 
     /// One of a list that isn't empty.

@@ -27,13 +27,7 @@ pub fn run(words: &[u32], state: u32, events: &[u32], trace: &mut [u32], place: 
     try_run(words, state, events, trace, place).into()
 }
 
-fn try_run(
-    words: &[u32],
-    state: u32,
-    events: &[u32],
-    trace: &mut [u32],
-    place: usize,
-) -> Result<Answer, Refusal> {
+fn try_run(words: &[u32], state: u32, events: &[u32], trace: &mut [u32], place: usize) -> Result<Answer, Refusal> {
     let set = read(words)?;
     if events.len() > limits::EVENTS {
         return Err(refusal::too_little_room(limits::EVENTS + 1));

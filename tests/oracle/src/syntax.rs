@@ -41,7 +41,11 @@ pub enum Change {
 #[derive(Clone, Debug, PartialEq, Eq)]
 pub enum Event {
     /// The change of c, WHEN d.
-    Change { change: Change, c: Condition, d: Condition },
+    Change {
+        change: Change,
+        c: Condition,
+        d: Condition,
+    },
     Or(Box<Event>, Box<Event>),
     /// The constant false.
     Never,

@@ -40,9 +40,7 @@ fn answer(arguments: &[&str]) -> Option<io::Result<Vec<u8>>> {
             let (state, event) = (state.parse().ok()?, event.parse().ok()?);
             std::fs::read(file).map(|bytes| number_line(oracle::host_step(&bytes, state, event)))
         }
-        ["histogram", seed, count] => {
-            Ok(histogram(seed.parse().ok()?, count.parse().ok()?).to_string().into_bytes())
-        }
+        ["histogram", seed, count] => Ok(histogram(seed.parse().ok()?, count.parse().ok()?).to_string().into_bytes()),
         ["generate", seed, count, directory] => {
             let (seed, count) = (seed.parse().ok()?, count.parse().ok()?);
             write_inputs(seed, count, Path::new(directory)).map(|()| Vec::new())

@@ -91,8 +91,7 @@ pub enum Place {
     When,
 }
 
-pub const PLACES: [Place; 5] =
-    [Place::Assertion, Place::ConditionRow, Place::Events, Place::Changing, Place::When];
+pub const PLACES: [Place; 5] = [Place::Assertion, Place::ConditionRow, Place::Events, Place::Changing, Place::When];
 
 /// A set with a formula of just this depth, 2 at least. Within the limit it passes.
 pub fn depth(random: &mut Random, place: Place, depth: usize) -> Vec<u32> {
@@ -224,7 +223,7 @@ pub fn within(random: &mut Random) -> Vec<u32> {
         3 => size(random.between(3, 4) as u32, limits::SIZE),
         4 => size(2, limits::MODES),
         5 => words(limits::WORDS),
-        6 if random.chance(10) => states(&most_states(random)),
+        6 if random.chance(40) => states(&most_states(random)),
         _ => depth_at(random, limits::DEPTH),
     }
 }

@@ -45,7 +45,7 @@ pub fn call(random: &mut Random, words: &[u32], most: Lengths) -> Call {
 pub fn step_call(random: &mut Random, words: &[u32]) -> Call {
     let set = read(words).ok();
     let set = set.as_ref();
-    if let Some(start) = fault::start(random, words).filter(|_| random.chance(50)) {
+    if let Some(start) = fault::start(random, words).filter(|_| random.chance(75)) {
         return Call::Step { state: start.state, event: start.events[0] };
     }
     let state = state(random, set);
@@ -57,7 +57,7 @@ pub fn run_call(random: &mut Random, words: &[u32], most: Lengths) -> Call {
     let set = set.as_ref();
     let length = list_length(random).min(most.events);
     let (lent, place) = room(random, length, most.trace);
-    let start = fault::start(random, words).filter(|start| start.events.len() <= length && random.chance(50));
+    let start = fault::start(random, words).filter(|start| start.events.len() <= length && random.chance(75));
     let (state, mut events) = start.map_or_else(|| (state(random, set), Vec::new()), |s| (s.state, s.events));
     follow(random, set, state, length, &mut events);
     Call::Run { state, events, lent, place }

@@ -7,6 +7,14 @@ use crate::syntax::{Change, Condition, Event, Test, Variable};
 pub struct Scope<'a> {
     pub variables: &'a [Variable],
     pub names: Vec<usize>,
+    /// Tests that the tables of a set have in common, so that they act in the same steps.
+    pub shared: &'a [Condition],
+}
+
+impl Scope<'_> {
+    pub fn of_all(variables: &[Variable]) -> Scope<'_> {
+        Scope { variables, names: (0..variables.len()).collect(), shared: &[] }
+    }
 }
 
 pub fn not(condition: Condition) -> Condition {
@@ -28,6 +36,12 @@ pub fn equals(variable: usize, value: u32) -> Condition {
 pub fn test(random: &mut Random, scope: &Scope) -> Condition {
     if scope.names.is_empty() {
         return Condition::Constant(random.chance(50));
+    }
+    if !scope.shared.is_empty() && random.chance(55) {
+        let shared = random.pick(scope.shared);
+        if matches!(shared, Condition::Test { variable, .. } if scope.names.contains(variable)) {
+            return shared.clone();
+        }
     }
     let variable = *random.pick(&scope.names);
     let value = random.value_below(scope.variables[variable].size);

@@ -1,9 +1,9 @@
-//! Sets that nearly pass: a lawful set with one row altered, or with a table that names one variable too many.
+//! Sets that nearly pass: a lawful set with one row altered.
 
 use super::formula::{self, Scope};
 use crate::limits;
 use crate::random::Random;
-use crate::syntax::{Class, Condition, Event, Row, Rows, Sheet, Table};
+use crate::syntax::{Class, Event, Row, Rows, Sheet, Table};
 
 /// One row of one table taken out, doubled, or given another mode or formula.
 pub fn other_row(random: &mut Random, mut sheet: Sheet) -> Sheet {
@@ -17,8 +17,8 @@ pub fn other_row(random: &mut Random, mut sheet: Sheet) -> Sheet {
     let modes = class_read.map(|class| variables[class].size);
     // What the table names already makes no cycle; inputs never do.
     let inputs = (0..variables.len()).filter(|&v| variables[v].class == Class::Monitored).collect();
-    let now = Scope { variables: &variables, names: inputs };
-    let past = Scope { variables: &variables, names: (0..variables.len()).collect() };
+    let now = Scope { variables: &variables, names: inputs, shared: &[] };
+    let past = Scope::of_all(&variables);
     match rows {
         Rows::Mode(rows) | Rows::Event(rows) => {
             let event = formula::event(random, &now, &past, 2);
@@ -35,7 +35,7 @@ pub fn other_row(random: &mut Random, mut sheet: Sheet) -> Sheet {
 /// One event row doubled, the twin with another guard.
 pub fn overlapping(random: &mut Random, mut sheet: Sheet) -> Sheet {
     let variables = sheet.variables.clone();
-    let past = Scope { variables: &variables, names: (0..variables.len()).collect() };
+    let past = Scope::of_all(&variables);
     let mut tables: Vec<&mut Table> = sheet.tables.iter_mut().filter(|table| !table.is_condition_table()).collect();
     if tables.is_empty() {
         return sheet;
@@ -79,48 +79,5 @@ fn alter<Formula: Clone>(
             rows.insert(random.between(at, rows.len()), twin);
         }
         _ => {}
-    }
-}
-
-/// Some tables made to read one another in a ring, and some of the others made to read into it.
-pub fn cyclic(random: &mut Random, mut sheet: Sheet) -> Sheet {
-    let mut tables: Vec<usize> = (0..sheet.tables.len()).collect();
-    if tables.is_empty() {
-        return sheet;
-    }
-    random.shuffle(&mut tables);
-    let length = random.between(1, tables.len());
-    for place in 0..length {
-        let read = sheet.tables[tables[(place + 1) % length]].variable;
-        name(random, &mut sheet, tables[place], read);
-    }
-    if length < tables.len() && random.chance(50) {
-        let read = sheet.tables[tables[0]].variable;
-        name(random, &mut sheet, tables[length], read);
-    }
-    sheet
-}
-
-/// Makes a table read a variable.
-fn name(random: &mut Random, sheet: &mut Sheet, table: usize, read: usize) {
-    let value = random.value_below(sheet.variables[read].size);
-    let test = formula::equals(read, value);
-    match &mut sheet.tables[table].rows {
-        Rows::Mode(rows) | Rows::Event(rows) => {
-            let at = random.below(rows.len());
-            let row = &mut rows[at];
-            row.formula = match row.formula.clone() {
-                Event::Change { change, c, d } => Event::Change { change, c: formula::and(c, test), d },
-                other => {
-                    let d = Condition::Constant(true);
-                    Event::Or(Box::new(other), Box::new(formula::change(random, test, d)))
-                }
-            };
-        }
-        Rows::Condition(rows) => {
-            let at = random.below(rows.len());
-            let row = &mut rows[at];
-            row.formula = formula::or(row.formula.clone(), test);
-        }
     }
 }

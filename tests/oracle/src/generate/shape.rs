@@ -1,9 +1,9 @@
 //! The variables of a random set, and which of them a table may name.
 
-use super::formula::Scope;
+use super::formula::{self, Scope};
 use crate::limits;
 use crate::random::Random;
-use crate::syntax::{Class, Variable};
+use crate::syntax::{Class, Condition, Variable};
 
 /// What a variable's value comes from.
 #[derive(Clone, Copy, Debug, PartialEq, Eq)]
@@ -19,31 +19,55 @@ pub struct Shape {
     pub roles: Vec<Role>,
     /// A hidden order: a table that reads only inputs and variables of lower rank makes no cycle.
     rank: Vec<usize>,
+    /// Tests that tables have in common.
+    shared: Vec<Condition>,
+    /// A row or two for each mode and short formulas: a change of mode is then often met by the other tables.
+    pub plain: bool,
 }
+
+/// Tests in common of one set.
+const SHARED: usize = 3;
+/// Typed steps of one set.
+const MOST_STEPS: u64 = 400_000;
 
 impl Shape {
     pub fn new(random: &mut Random) -> Shape {
-        let states = most_states(random);
-        let mut shape = Shape { variables: Vec::new(), roles: Vec::new(), rank: Vec::new() };
-        let mut product = 1;
-        for wanted in wanted_roles(random) {
-            shape.add(random, wanted, states, &mut product);
+        let plain = random.chance(25);
+        let most_states = if plain { 100 } else { most_states(random) };
+        let mut shape = Shape { variables: vec![], roles: vec![], rank: vec![], shared: vec![], plain };
+        for wanted in if plain { plain_roles(random) } else { wanted_roles(random) } {
+            shape.add(random, wanted, most_states);
         }
-        shape.rank = (0..shape.variables.len()).collect();
+        shape.rank = (0..shape.count()).collect();
         random.shuffle(&mut shape.rank);
+        shape.shared = (0..SHARED).map(|_| formula::test(random, &Scope::of_all(&shape.variables))).collect();
         shape
     }
 
-    /// A variable that would make too many states gets a condition table instead.
-    fn add(&mut self, random: &mut Random, wanted: Role, states: u64, product: &mut u64) {
-        let size = size(random, wanted);
-        let role = if *product * u64::from(size) > states { Role::ConditionTable } else { wanted };
+    /// A variable that would make too many states or steps gets a condition table instead.
+    fn add(&mut self, random: &mut Random, wanted: Role, most_states: u64) {
+        let size = if self.plain { random.between(2, 3) as u32 } else { size(random, wanted) };
+        let states = self.states() * u64::from(size);
+        let events = self.events() + if wanted == Role::Input { u64::from(size) - 1 } else { 0 };
+        let too_large = states > most_states || states * events > MOST_STEPS;
+        let role = if too_large { Role::ConditionTable } else { wanted };
         let initial = if role == Role::ConditionTable { 0 } else { random.value_below(size) };
-        if role != Role::ConditionTable {
-            *product *= u64::from(size);
-        }
         self.variables.push(Variable { class: class(random, role), size, initial });
         self.roles.push(role);
+    }
+
+    fn states(&self) -> u64 {
+        self.sizes_where(|role| role != Role::ConditionTable).iter().product()
+    }
+
+    /// Events enabled in each state.
+    fn events(&self) -> u64 {
+        self.sizes_where(|role| role == Role::Input).iter().map(|size| size - 1).sum()
+    }
+
+    fn sizes_where(&self, counts: fn(Role) -> bool) -> Vec<u64> {
+        let counted = self.variables.iter().zip(&self.roles).filter(|(_, &role)| counts(role));
+        counted.map(|(variable, _)| u64::from(variable.size)).collect()
     }
 
     pub fn count(&self) -> usize {
@@ -53,12 +77,12 @@ impl Shape {
     /// What a table may read of the state after a step without making a cycle.
     pub fn now(&self, variable: usize) -> Scope<'_> {
         let names = (0..self.count()).filter(|&other| self.may_read(variable, other)).collect();
-        Scope { variables: &self.variables, names }
+        Scope { variables: &self.variables, names, shared: &self.shared }
     }
 
     /// What a table may read of the state before.
     pub fn past(&self) -> Scope<'_> {
-        Scope { variables: &self.variables, names: (0..self.count()).collect() }
+        Scope { variables: &self.variables, names: (0..self.count()).collect(), shared: &self.shared }
     }
 
     fn may_read(&self, variable: usize, other: usize) -> bool {
@@ -75,7 +99,7 @@ impl Shape {
         let classes: Vec<usize> = (0..self.count())
             .filter(|&other| self.roles[other] == Role::ModeTable && (past || self.may_read(variable, other)))
             .collect();
-        (!classes.is_empty() && random.chance(70)).then(|| *random.pick(&classes))
+        (!classes.is_empty() && (self.plain || random.chance(70))).then(|| *random.pick(&classes))
     }
 }
 
@@ -115,6 +139,14 @@ fn wanted_roles(random: &mut Random) -> Vec<Role> {
         let at = random.below(roles.len());
         roles[at] = first;
     }
+    roles
+}
+
+/// An input or two, a mode class, and what may follow it.
+fn plain_roles(random: &mut Random) -> Vec<Role> {
+    let mut roles = vec![Role::Input, Role::ModeTable, Role::EventTable];
+    roles.extend([Role::Input, Role::ConditionTable].iter().filter(|_| random.chance(50)));
+    random.shuffle(&mut roles);
     roles
 }
 
