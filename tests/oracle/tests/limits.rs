@@ -5,7 +5,7 @@ mod common;
 use common::{joined, pass, refuse};
 use oracle::generate::bounds::{self, Place, PLACES};
 use oracle::random::Random;
-use oracle::write::{row, table, variable, ASSERTION, FALSE, TRUE};
+use oracle::write::{equals, row, table, variable, ASSERTION, FALSE, TRUE};
 use oracle::{check, check_fast};
 
 fn seeds() -> impl Iterator<Item = Random> {
@@ -65,6 +65,9 @@ fn assertions_32_and_33() {
     last_false[63] = FALSE;
     assert_eq!(check(&last_false), refuse(13, &[31]));
     assert_eq!(check_fast(&last_false), refuse(13, &[31]));
+    let last_broken = joined(&[&[variable(1, 2, 0)], &[ASSERTION, TRUE].repeat(31), &[ASSERTION, equals(0, 0)]]);
+    assert_eq!(check(&last_broken), refuse(14, &[31, 0, 0, 1]));
+    assert_eq!(check_fast(&last_broken), refuse(14, &[31, 0, 0, 1]));
 }
 
 #[test]

@@ -421,6 +421,7 @@ fn changes_by_document_01() {
     // @F needs truth before and falsity after.
     assert!(fires(&[AT_F, test(0, 1, 1), TRUE], 0, 2));
     assert!(!fires(&[AT_F, test(0, 1, 1), TRUE], 0, 1));
+    assert!(!fires(&[AT_F, equals(0, 0), TRUE], 1, 2));
     // d is judged before the step.
     assert!(fires(&[AT_T, equals(0, 1), equals(0, 0)], 0, 1));
     assert!(!fires(&[AT_T, equals(0, 1), equals(0, 1)], 0, 1));

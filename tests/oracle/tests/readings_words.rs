@@ -77,6 +77,7 @@ fn reading_1_spare_bits_before_a_limit() {
 fn reading_1_a_field_out_of_range_before_an_unfit_table() {
     assert_eq!(refused(&joined(&[&TWO, &[table(2, 0, 255)]])), refuse(5, &[2]));
     assert_eq!(refused(&joined(&[&TWO, &[table(2, 0, 2)]])), refuse(3, &[2]));
+    assert_eq!(refused(&joined(&[&TWO, &[table(2, 2, 255)]])), refuse(3, &[2]));
 }
 
 #[test]
@@ -277,6 +278,9 @@ fn reading_6_order_after_the_words() {
     let tabled = [variable(TERM, 2, 1), variable(TERM, 2, 0), variable(TERM, 2, 0)];
     assert_eq!(refused(&joined(&[&tabled, &always(0)])), refuse(6, &[1]));
     assert_eq!(refused(&joined(&[&tabled, &always(0), &always(1), &always(2)])), refuse(7, &[0]));
+    // The lowest 7 of two.
+    let two = [variable(TERM, 2, 0), variable(TERM, 2, 1), variable(TERM, 2, 1)];
+    assert_eq!(refused(&joined(&[&two, &always(2), &always(1), &always(0)])), refuse(7, &[1]));
     // 8 at variable 2 and 7 at variable 3.
     let large = variable(INPUT, 256, 0);
     let many = [large, large, large, variable(TERM, 2, 1)];
@@ -356,7 +360,7 @@ fn reading_8_the_cycle_shown() {
     // A lead of two: after 32 moves at 2 again, now of the ring 2, 3, 4.
     assert_eq!(refused(&readers(&[&[1], &[2], &[3], &[4], &[2]])), refuse(9, &[2, 3]));
     // Of two stuck variables read, the lowest; variables taken don't count.
-    assert_eq!(refused(&readers(&[&[], &[0, 3, 2], &[1, 0], &[1]])), refuse(9, &[1, 2]));
+    assert_eq!(refused(&readers(&[&[], &[0, 3, 2], &[1, 0], &[4], &[1]])), refuse(9, &[1, 2]));
     // Stuck, but not on a cycle: variable 0 leads to the one that reads itself.
     assert_eq!(refused(&readers(&[&[2], &[], &[2, 1]])), refuse(9, &[2, 1]));
 }

@@ -45,7 +45,7 @@ pub fn inputs(count: usize) -> Vec<u32> {
     vec![write::variable(1, 2, 0); count]
 }
 
-/// A table of type 1, 2 or 3 with as many rows, of which only the first can ever hold.
+/// A table of type 1, 2 or 3 with as many rows, of which at most the first can ever hold.
 pub fn constant_rows(table_type: u32, count: usize) -> Vec<u32> {
     let (class, class_read) = if table_type == 1 { (2, 0) } else { (3, word::NONE) };
     let first = if table_type == 3 { write::TRUE } else { write::FALSE };
@@ -217,13 +217,13 @@ fn truth(count: usize, words: &mut Vec<u32>) {
 pub fn within(random: &mut Random) -> Vec<u32> {
     match random.below(13) {
         0 => variables(random, limits::VARIABLES),
-        12 => inputs(limits::VARIABLES),
-        1 => rows(random.between(1, 3) as u32, limits::ROWS),
-        2 => assertions(random, limits::ASSERTIONS),
-        3 => size(random.between(3, 4) as u32, limits::SIZE),
-        4 => size(2, limits::MODES),
-        5 => words(limits::WORDS),
-        6 if random.chance(40) => states(&most_states(random)),
+        1 => inputs(limits::VARIABLES),
+        2 => rows(random.between(1, 3) as u32, limits::ROWS),
+        3 => assertions(random, limits::ASSERTIONS),
+        4 => size(*random.pick(&[1, 3, 4]), limits::SIZE),
+        5 => size(2, limits::MODES),
+        6 => words(limits::WORDS),
+        7 if random.chance(40) => states(&most_states(random)),
         _ => depth_at(random, limits::DEPTH),
     }
 }
@@ -232,9 +232,9 @@ pub fn within(random: &mut Random) -> Vec<u32> {
 pub fn over(random: &mut Random) -> Vec<u32> {
     match random.below(9) {
         0 => variables(random, limits::VARIABLES + 1),
-        8 => inputs(limits::VARIABLES + 1),
-        1 => rows(random.between(1, 3) as u32, limits::ROWS + 1),
-        2 => assertions(random, limits::ASSERTIONS + 1),
+        1 => inputs(limits::VARIABLES + 1),
+        2 => rows(random.between(1, 3) as u32, limits::ROWS + 1),
+        3 => assertions(random, limits::ASSERTIONS + 1),
         _ => depth_at(random, limits::DEPTH + 1),
     }
 }
@@ -242,7 +242,7 @@ pub fn over(random: &mut Random) -> Vec<u32> {
 /// Any set over a limit that is another refusal: 1, 3 or 8.
 pub fn over_otherwise(random: &mut Random) -> Vec<u32> {
     match random.below(5) {
-        0 => size(1, limits::SIZE + 1),
+        0 => size(*random.pick(&[1, 3, 4]), limits::SIZE + 1),
         1 => size(2, limits::MODES + 1),
         2 => size(random.between(1, 4) as u32, random.value_below(2)),
         3 => words(limits::WORDS + 1),

@@ -109,7 +109,8 @@ fn most_states(random: &mut Random) -> u64 {
         0..=599 => random.between(4, 64),
         600..=949 => random.between(64, 300),
         950..=995 => random.between(300, 3000),
-        _ => random.between(3000, 65_536),
+        996..=997 => random.between(3000, 65_536),
+        _ => 65_536,
     };
     most as u64
 }
