@@ -1,0 +1,3 @@
+mod Words
+mod Answers
+mod Variables
