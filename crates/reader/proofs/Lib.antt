@@ -1,3 +1,4 @@
 mod Words
 mod Answers
 mod Variables
+mod Formulas
