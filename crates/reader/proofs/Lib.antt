@@ -1,4 +1,6 @@
 mod Words
 mod Answers
+mod Faults
 mod Variables
 mod Formulas
+mod Rows

@@ -8,7 +8,7 @@ use lib.ListN.{length}
 use Rattle.word.specs.Fields as W
 use Rattle.meaning.specs.Searches.{mem, within}
 use Rattle.meaning.specs.Lookup.{variableAt}
-use Rattle.meaning.specs.Reading.{word, fits, conditionKinds, eventKinds, variableOk, testOk}
+use Rattle.meaning.specs.Reading.{word, fits, conditionKinds, eventKinds, variableOk, testOk, rowOk}
 use Rattle.index.specs.Places.{variablesTo}
 use Rattle.index.proofs.Laws.{past-end, variables-length}
 
@@ -46,3 +46,9 @@ module _ (ws : List ℕ) (n w : ℕ) where
       → ((ltb v n && leb how 1) && ltb k values) ≡ testOk (variablesTo ws n) w
   unfolding testOk
   test-fields v how k values ev eh ek es = rw (variables-length ws n, es, ev, eh, ek)
+
+  pub row-fields : (v m r k modes values : ℕ) → r ≡ W.mode w → k ≡ W.value w
+      → modes ≡ variableAt (variablesTo ws n) m .size → values ≡ variableAt (variablesTo ws n) v .size
+      → ((eqb r 255 || (not (eqb m 255) && ltb r modes)) && ltb k values) ≡ rowOk (variablesTo ws n) v m w
+  unfolding rowOk
+  row-fields v m r k modes values er ek em ev = rw (er, ek, em, ev)

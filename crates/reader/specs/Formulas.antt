@@ -1,6 +1,7 @@
 -- What code that keeps places alone says of formulas and rows. Rows are typed by their formula, places are not: these are the same
 -- readings for a table of type t, which is 3 for a condition table.
 use Prim.Native.Nat.{ℕ}
+use mathlib.Core.Bool.{Bool, true, false}
 use mathlib.Core.List.{List}
 use lib.Dec.{eqb}
 use Rattle.word.specs.Limits as Max
@@ -9,6 +10,14 @@ use Rattle.meaning.specs.Syntax.{Variable}
 use Rattle.meaning.specs.Reading.{readCondition, readEvent, readRow, readRows}
 use Rattle.index.specs.declared.Reached.{Reached}
 use Rattle.index.specs.Places.{reach, thenAt}
+
+-- the number of a word's refusal, 0 for none: "each word, in this order", 2, 4, 3, 5
+unfoldable pub faultOf : (fits room ranged suited : Bool) → ℕ
+faultOf false room ranged suited = 2
+faultOf true false ranged suited = 4
+faultOf true true false suited = 3
+faultOf true true true false = 5
+faultOf true true true true = 0
 
 module _ (ws : List ℕ) (vs : List Variable) where
   -- the two conditions of a change
