@@ -4,3 +4,5 @@ mod Faults
 mod Variables
 mod Formulas
 mod Rows
+mod Tables
+mod Assertions

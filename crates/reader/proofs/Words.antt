@@ -5,10 +5,11 @@ use mathlib.Core.List.{List, [], _∷_}
 use Prim.Native.Nat.{ℕ, _≤_}
 use lib.Dec.{eqb, leb, ltb}
 use lib.ListN.{length}
+use borrow.Author.Tests.{ne-eqb}
 use Rattle.word.specs.Fields as W
 use Rattle.meaning.specs.Searches.{mem, within}
 use Rattle.meaning.specs.Lookup.{variableAt}
-use Rattle.meaning.specs.Reading.{word, fits, conditionKinds, eventKinds, variableOk, testOk, rowOk}
+use Rattle.meaning.specs.Reading.{word, fits, conditionKinds, eventKinds, variableOk, testOk, rowOk, tableOk, tableFits}
 use Rattle.index.specs.Places.{variablesTo}
 use Rattle.index.proofs.Laws.{past-end, variables-length}
 
@@ -52,3 +53,19 @@ module _ (ws : List ℕ) (n w : ℕ) where
       → ((eqb r 255 || (not (eqb m 255) && ltb r modes)) && ltb k values) ≡ rowOk (variablesTo ws n) v m w
   unfolding rowOk
   row-fields v m r k modes values er ek em ev = rw (er, ek, em, ev)
+
+module _ (ws : List ℕ) (n at w t v m : ℕ) (ew : w ≡ word ws at) (et : t ≡ W.sort w) (ev : v ≡ W.defined w) (em : m ≡ W.class-read w) where
+  pub table-fields : (known : Bool) → known ≡ within 1 3 t
+      → ((known && ltb v n) && (eqb m 255 || ltb m n)) ≡ tableOk (variablesTo ws n) (word ws at)
+  unfolding tableOk
+  table-fields known ek = rw (ek, et, ev, em, ew, variables-length ws n)
+
+  module _ (class : ℕ) (ec : class ≡ variableAt (variablesTo ws n) v .class) where
+    pub mode-table-fits : t ≡ 1 → (eqb class 2 && eqb m v) ≡ tableFits (variablesTo ws n) (word ws at)
+    unfolding tableFits
+    mode-table-fits e = rw (ec, ev, em, ← ew, ← et, e)
+
+    pub other-table-fits : (read : ℕ) → read ≡ variableAt (variablesTo ws n) m .class → (t ≡ 1 → ⊥)
+        → (leb 3 class && (eqb m 255 || eqb read 2)) ≡ tableFits (variablesTo ws n) (word ws at)
+    unfolding tableFits
+    other-table-fits read er e = rw (ec, er, ev, em, ← ew, ← et, ne-eqb t 1 e)

@@ -1,1 +1,2 @@
 pub mod Formulas
+pub mod Tables
