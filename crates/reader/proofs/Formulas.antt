@@ -16,7 +16,7 @@ use Rattle.index.specs.declared.Reached.{Reached}
 use Rattle.index.specs.declared.Reached.the-variants.{Next, Refused}
 use Rattle.index.specs.Places.{reach, thenAt}
 use Rattle.reader.specs.Formulas.{changeReach}
-use Rattle.reader.proofs.Words.{kind-past}
+use Rattle.reader.proofs.Tests.{kind-past}
 use Rattle.reader.proofs.Answers.{made-reach, two-reach, then-next, then-stop}
 
 -- ---- conditions

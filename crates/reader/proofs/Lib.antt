@@ -1,4 +1,4 @@
-mod Words
+mod Tests
 mod Answers
 mod Faults
 mod Variables
@@ -6,3 +6,5 @@ mod Formulas
 mod Rows
 mod Tables
 mod Assertions
+mod Places
+mod Whole

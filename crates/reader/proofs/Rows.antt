@@ -18,7 +18,7 @@ use Rattle.index.specs.declared.Reached.{Reached}
 use Rattle.index.specs.declared.Reached.the-variants.{Next, Refused}
 use Rattle.index.specs.Places.{reach, thenAt}
 use Rattle.reader.specs.Formulas.{faultOf, formulaReach, rowReach, rowsReach}
-use Rattle.reader.proofs.Words.{kind-past}
+use Rattle.reader.proofs.Tests.{kind-past}
 use Rattle.reader.proofs.Answers.{then-reach, made-reach, then-next, then-stop}
 use Rattle.reader.proofs.Faults.{tested, tested-refused, tested-passed, word-then}
 use Rattle.reader.proofs.Variables.{left}

@@ -12,7 +12,7 @@ use Rattle.word.specs.Fields as W
 use Rattle.word.specs.Limits as Max
 use Rattle.meaning.specs.Answers.{Parse, fine, stop, _>>>_, expect, if_then_else_}
 use Rattle.meaning.specs.Searches.{mem, within}
-use Rattle.meaning.specs.Syntax.{Variable, Table, condition-table}
+use Rattle.meaning.specs.Syntax.{Condition, Event, Variable, Row, Table, condition-table}
 use Rattle.meaning.specs.Reading.{Read, word, fits, tableOk, tableFits, bodyOf, eventTableBy, wordAt, readCondition, readEvent, readRows, readBody, readTable}
 use Rattle.index.specs.declared.Reached.{Reached}
 use Rattle.index.specs.declared.Reached.the-variants.{Next, Refused}
@@ -20,26 +20,34 @@ use Rattle.index.specs.Places.{reach, told, variablesTo}
 use Rattle.index.proofs.Laws.{variables-length}
 use Rattle.reader.specs.Formulas.{faultOf, rowsReach}
 use Rattle.reader.specs.Tables.{isPlaced, readPlaces}
-use Rattle.reader.proofs.Words.{kind-past}
+use Rattle.reader.proofs.Tests.{kind-past}
 use Rattle.reader.proofs.Answers.{made-reach, refused-not-next}
 use Rattle.reader.proofs.Faults.{tested, tested-refused, tested-passed, word-then}
 use Rattle.reader.proofs.Variables.{left}
 
--- ---- a table
-body-reach : (ws : List ℕ) (vs : List Variable) (w i : ℕ)
-    → rowsReach ws vs (W.sort w) (W.defined w) (W.class-read w) Max.max-rows i ≡ reach (readBody ws vs w i)
-unfolding readBody rowsReach
-body-reach ws vs w i = go (eqb (W.sort w) 3)
-  where
-    go : (b : Bool)
-        → (if b
-        then (λ _. reach (readRows ws vs (readCondition ws vs Max.max-depth) (W.defined w) (W.class-read w) Max.max-rows i))
-        else (λ _. reach (readRows ws vs (readEvent ws vs Max.max-depth) (W.defined w) (W.class-read w) Max.max-rows i)))
-        ≡ reach (if b
-        then (λ _. readRows ws vs (readCondition ws vs Max.max-depth) (W.defined w) (W.class-read w) Max.max-rows i >>> λ r. fine (condition-table (bodyOf w (r .0)), r .1))
-        else (λ _. readRows ws vs (readEvent ws vs Max.max-depth) (W.defined w) (W.class-read w) Max.max-rows i >>> λ r. fine (eventTableBy (eqb (W.sort w) 1) (bodyOf w (r .0)), r .1)))
-    go true = sym (made-reach (readRows ws vs (readCondition ws vs Max.max-depth) (W.defined w) (W.class-read w) Max.max-rows i) _)
-    go false = sym (made-reach (readRows ws vs (readEvent ws vs Max.max-depth) (W.defined w) (W.class-read w) Max.max-rows i) _)
+-- ---- a table: its rows as the meaning reads them, and the table made of them
+module _ (ws : List ℕ) (vs : List Variable) (w i : ℕ) where
+  abbrev pub conditionRows : Read (List (Row Condition))
+  conditionRows = readRows ws vs (readCondition ws vs Max.max-depth) (W.defined w) (W.class-read w) Max.max-rows i
+
+  abbrev pub eventRows : Read (List (Row Event))
+  eventRows = readRows ws vs (readEvent ws vs Max.max-depth) (W.defined w) (W.class-read w) Max.max-rows i
+
+  abbrev pub conditionTable : Read Table
+  conditionTable = conditionRows >>> λ r. fine (condition-table (bodyOf w (r .0)), r .1)
+
+  abbrev pub eventTable : Read Table
+  eventTable = eventRows >>> λ r. fine (eventTableBy (eqb (W.sort w) 1) (bodyOf w (r .0)), r .1)
+
+  body-reach : rowsReach ws vs (W.sort w) (W.defined w) (W.class-read w) Max.max-rows i ≡ reach (readBody ws vs w i)
+  unfolding readBody rowsReach
+  body-reach = go (eqb (W.sort w) 3)
+    where
+      go : (b : Bool)
+          → (if b then (λ _. reach conditionRows) else (λ _. reach eventRows))
+          ≡ reach (if b then (λ _. conditionTable) else (λ _. eventTable))
+      go true = sym (made-reach conditionRows _)
+      go false = sym (made-reach eventRows _)
 
 module _ (ws : List ℕ) (vs : List Variable) (at : ℕ) (taken : Bool) where
   table-tested : reach (readTable ws vs at taken)
@@ -87,7 +95,7 @@ first-of : (a b : Bool) → a && b ≡ true → a ≡ true
 first-of true b e = refl
 first-of false b e = e
 
-second-of : (a b : Bool) → a && b ≡ true → b ≡ true
+pub second-of : (a b : Bool) → a && b ≡ true → b ≡ true
 second-of true b e = e
 second-of false b e = absurd (let z : _≡_ {A = ℕ} 0 1 = cc in omega arith)
 

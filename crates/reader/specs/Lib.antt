@@ -1,2 +1,3 @@
 pub mod Formulas
 pub mod Tables
+pub mod Typed

@@ -1,4 +1,4 @@
-use Rattle.reader.proofs.Words.{condition-kind}
+use Rattle.reader.proofs.Tests.{condition-kind}
 use borrow.Author.Needs.{needs}
 use Rattle.reader.proofs.fits_condition.Statement.{statement}
 use Rattle.reader.proofs.fits_condition.Tie as tie

@@ -1,4 +1,4 @@
-use Rattle.reader.proofs.Words.{event-kind}
+use Rattle.reader.proofs.Tests.{event-kind}
 use borrow.Author.Needs.{needs}
 use Rattle.reader.proofs.fits_event.Statement.{statement}
 use Rattle.reader.proofs.fits_event.Tie as tie

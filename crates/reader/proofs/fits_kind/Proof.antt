@@ -1,4 +1,4 @@
-use Rattle.reader.proofs.Words.{one-kind}
+use Rattle.reader.proofs.Tests.{one-kind}
 use borrow.Author.Needs.{needs}
 use Rattle.reader.proofs.fits_kind.Statement.{statement}
 use Rattle.reader.proofs.fits_kind.Tie as tie

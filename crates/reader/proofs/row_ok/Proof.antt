@@ -1,4 +1,4 @@
-use Rattle.reader.proofs.Words.{row-fields}
+use Rattle.reader.proofs.Tests.{row-fields}
 use borrow.Author.Needs.{needs}
 use Rattle.reader.proofs.row_ok.Statement.{statement}
 use Rattle.reader.proofs.row_ok.Tie as tie

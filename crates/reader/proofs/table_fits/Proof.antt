@@ -1,4 +1,4 @@
-use Rattle.reader.proofs.Words.{mode-table-fits, other-table-fits}
+use Rattle.reader.proofs.Tests.{mode-table-fits, other-table-fits}
 use borrow.Author.Needs.{needs}
 use Rattle.reader.proofs.table_fits.Statement.{statement}
 use Rattle.reader.proofs.table_fits.Tie as tie

@@ -1,4 +1,4 @@
-use Rattle.reader.proofs.Words.{table-fields}
+use Rattle.reader.proofs.Tests.{table-fields}
 use borrow.Author.Needs.{needs}
 use Rattle.reader.proofs.table_ok.Statement.{statement}
 use Rattle.reader.proofs.table_ok.Tie as tie

@@ -1,4 +1,4 @@
-use Rattle.reader.proofs.Words.{test-fields}
+use Rattle.reader.proofs.Tests.{test-fields}
 use borrow.Author.Needs.{needs}
 use Rattle.reader.proofs.test_ok.Statement.{statement}
 use Rattle.reader.proofs.test_ok.Tie as tie

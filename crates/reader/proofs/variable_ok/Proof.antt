@@ -1,4 +1,4 @@
-use Rattle.reader.proofs.Words.{variable-fields}
+use Rattle.reader.proofs.Tests.{variable-fields}
 use borrow.Author.Needs.{needs}
 use Rattle.reader.proofs.variable_ok.Statement.{statement}
 use Rattle.reader.proofs.variable_ok.Tie as tie
