@@ -8,3 +8,4 @@ mod Tables
 mod Assertions
 mod Places
 mod Whole
+mod Counts
