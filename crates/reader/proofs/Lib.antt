@@ -1,0 +1,11 @@
+mod Tests
+mod Answers
+mod Faults
+mod Variables
+mod Formulas
+mod Rows
+mod Tables
+mod Assertions
+mod Places
+mod Whole
+mod Counts

@@ -1,0 +1,23 @@
+use Rattle.reader.proofs.Tests.{event-kind}
+use borrow.Author.Needs.{needs}
+use Rattle.reader.proofs.fits_event.Statement.{statement}
+use Rattle.reader.proofs.fits_event.Tie as tie
+use Rattle.reader.proofs.fits_event.Reads as reads
+use Rattle.reader.proofs.fits_event.Lts as lts
+use Rattle.word.proofs.kind.Reads as kind-reads
+use Rattle.word.proofs.spare_clear.Reads as spare-clear-reads
+
+-- src/lib.rt:65:9
+kind-requires : tie.Need-kind-requires
+kind-requires c κs = search needs
+
+-- src/lib.rt:66:9
+spare-clear-requires : tie.Need-spare-clear-requires
+spare-clear-requires c κs = search needs
+
+-- src/lib.rt:62:1
+returns : tie.Need-returns
+returns c = search event-kind
+
+pub fits-event-spec : {M : Type 1} → statement M
+fits-event-spec = tie.close (tie.spec kind-requires spare-clear-requires returns)

@@ -1,0 +1,23 @@
+use Rattle.reader.proofs.Tests.{one-kind}
+use borrow.Author.Needs.{needs}
+use Rattle.reader.proofs.fits_kind.Statement.{statement}
+use Rattle.reader.proofs.fits_kind.Tie as tie
+use Rattle.reader.proofs.fits_kind.Reads as reads
+use Rattle.reader.proofs.fits_kind.Lts as lts
+use Rattle.word.proofs.kind.Reads as kind-reads
+use Rattle.word.proofs.spare_clear.Reads as spare-clear-reads
+
+-- src/lib.rt:48:9
+kind-requires : tie.Need-kind-requires
+kind-requires c κs = search needs
+
+-- src/lib.rt:49:9
+spare-clear-requires : tie.Need-spare-clear-requires
+spare-clear-requires c κs = search needs
+
+-- src/lib.rt:45:1
+returns : tie.Need-returns
+returns c = search one-kind
+
+pub fits-kind-spec : {M : Type 1} → statement M
+fits-kind-spec = tie.close (tie.spec kind-requires spare-clear-requires returns)

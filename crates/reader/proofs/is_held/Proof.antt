@@ -1,0 +1,38 @@
+use Rattle.reader.proofs.Counts.{held-none, held-some}
+use borrow.Author.Needs.{needs}
+use Rattle.reader.proofs.is_held.Statement.{statement}
+use Rattle.reader.proofs.is_held.Tie as tie
+use Rattle.reader.proofs.is_held.Reads as reads
+use Rattle.reader.proofs.is_held.Lts as lts
+use Rattle.index.proofs.place_of.Reads as place-of-reads
+use Rattle.index.proofs.word_at.Reads as word-at-reads
+use Rattle.word.proofs.sort.Reads as sort-reads
+
+-- src/lib.rt:466:9
+place-of-requires : tie.Need-place-of-requires
+place-of-requires c κs = search needs
+
+-- src/lib.rt:468:9
+returns : tie.Need-returns
+returns c = search held-none
+
+-- src/lib.rt:470:25
+sub-word-at : tie.Need-sub-word-at
+sub-word-at c = search needs
+
+-- src/lib.rt:470:10
+word-at-requires : tie.Need-word-at-requires
+word-at-requires c κs = search needs
+
+-- src/lib.rt:470:5
+sort-requires : tie.Need-sort-requires
+sort-requires c κs = search needs
+
+-- src/lib.rt:463:1
+returns-2 : tie.Need-returns-2
+returns-2 c = search held-some
+
+pub is-held-spec : {M : Type 1} → statement M
+is-held-spec =
+    tie.close
+    (tie.spec place-of-requires returns sub-word-at word-at-requires sort-requires returns-2)

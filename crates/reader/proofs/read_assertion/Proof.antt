@@ -1,0 +1,61 @@
+use Rattle.reader.proofs.Assertions.{assertion-laws}
+use borrow.Author.Needs.{needs}
+use Rattle.reader.proofs.read_assertion.Statement.{statement}
+use Rattle.reader.proofs.read_assertion.Tie as tie
+use Rattle.reader.proofs.read_assertion.Reads as reads
+use Rattle.reader.proofs.read_assertion.Lts as lts
+use Rattle.index.proofs.word_at.Reads as word-at-reads
+use Rattle.reader.proofs.fault.Reads as fault-reads
+use Rattle.reader.proofs.fits_kind.Reads as fits-kind-reads
+use Rattle.reader.proofs.read_condition.Reads as read-condition-reads
+use Rattle.word.proofs.sort.Reads as sort-reads
+
+-- src/lib.rt:379:9
+returns : tie.Need-returns
+returns c = search (needs, assertion-laws)
+
+-- src/lib.rt:381:9
+word-at-requires : tie.Need-word-at-requires
+word-at-requires c κs = search needs
+
+-- src/lib.rt:382:9
+fits-kind-requires : tie.Need-fits-kind-requires
+fits-kind-requires c κs = search needs
+
+-- src/lib.rt:383:9
+sort-requires : tie.Need-sort-requires
+sort-requires c κs = search needs
+
+-- src/lib.rt:384:9
+fault-requires : tie.Need-fault-requires
+fault-requires c κs = search needs
+
+-- src/lib.rt:386:9
+returns-2 : tie.Need-returns-2
+returns-2 c = search (needs, assertion-laws)
+
+-- src/lib.rt:388:30
+add-read-condition : tie.Need-add-read-condition
+add-read-condition c = search needs
+
+-- src/lib.rt:388:5
+read-condition-requires : tie.Need-read-condition-requires
+read-condition-requires c κs = search needs
+
+-- src/lib.rt:375:1
+returns-3 : tie.Need-returns-3
+returns-3 c = search (needs, assertion-laws)
+
+pub read-assertion-spec : {M : Type 1} → statement M
+read-assertion-spec =
+    tie.close
+    (tie.spec
+    returns
+    word-at-requires
+    fits-kind-requires
+    sort-requires
+    fault-requires
+    returns-2
+    add-read-condition
+    read-condition-requires
+    returns-3)

@@ -1,0 +1,97 @@
+use borrow.Author.Needs.{needs}
+use mathlib.Core.Path.{_≡_, refl}
+use Prim.Native.Nat.{_≤_, _-_}
+use Rattle.word.specs.Limits as Max
+use Rattle.index.specs.Places.{variablesTo}
+use Rattle.reader.specs.Formulas.{rowsReach}
+use Rattle.reader.proofs.Rows.{rows-refused, rows-end, rows-on, rows-over}
+use Rattle.reader.proofs.read_rows.Statement.{statement}
+use Rattle.reader.proofs.read_rows.Tie as tie
+use Rattle.reader.proofs.read_rows.Reads as reads
+use Rattle.reader.proofs.read_rows.Lts as lts
+use Rattle.index.proofs.word_at.Reads as word-at-reads
+use Rattle.reader.proofs.read_row.Reads as read-row-reads
+use Rattle.word.proofs.kind.Reads as kind-reads
+
+abbrev Inv-loop : tie.InvT-loop
+Inv-loop words n t v m at on₀ i₀ on i = (i ≤ Max.max-rows) × (rowsReach words (variablesTo words n) t v m (Max.max-rows - i) on ≡ rowsReach words (variablesTo words n) t v m Max.max-rows at)
+
+abbrev μ-loop : tie.MeasureT-loop
+μ-loop words n t v m at on₀ i₀ on i = Max.max-rows - i
+
+-- src/lib.rt:269:5
+loop-holds : tie.Need-loop-holds Inv-loop μ-loop
+loop-holds c = (search needs, refl)
+
+-- src/lib.rt:270:47
+sub-read-row : tie.Need-sub-read-row Inv-loop μ-loop
+sub-read-row c = search needs
+
+-- src/lib.rt:270:13
+read-row-requires : tie.Need-read-row-requires Inv-loop μ-loop
+read-row-requires c κs = search needs
+
+-- src/lib.rt:272:30
+enum-known-row : tie.Need-enum-known-row Inv-loop μ-loop
+enum-known-row c = search needs
+
+-- src/lib.rt:272:39
+returns : tie.Need-returns Inv-loop μ-loop
+returns c = search rows-refused
+
+-- src/lib.rt:273:27
+enum-known-row-2 : tie.Need-enum-known-row-2 Inv-loop μ-loop
+enum-known-row-2 c = search needs
+
+-- src/lib.rt:274:21
+word-at-requires : tie.Need-word-at-requires Inv-loop μ-loop
+word-at-requires c κs = search needs
+
+-- src/lib.rt:275:20
+kind-requires : tie.Need-kind-requires Inv-loop μ-loop
+kind-requires c κs = search needs
+
+-- src/lib.rt:276:21
+returns-2 : tie.Need-returns-2 Inv-loop μ-loop
+returns-2 c = search rows-end
+
+-- src/lib.rt:269:9
+add-i : tie.Need-add-i Inv-loop μ-loop
+add-i c = search needs
+
+-- src/lib.rt:269:5
+loop-less : tie.Need-loop-less Inv-loop μ-loop
+loop-less c = search needs
+
+-- src/lib.rt:269:5
+loop-again : tie.Need-loop-again Inv-loop μ-loop
+loop-again c = (search needs, search rows-on)
+
+-- src/lib.rt:282:5
+read-row-requires-2 : tie.Need-read-row-requires-2 Inv-loop μ-loop
+read-row-requires-2 c κs = search needs
+
+-- src/lib.rt:265:1
+returns-3 : tie.Need-returns-3 Inv-loop μ-loop
+returns-3 c = search rows-over
+
+pub read-rows-spec : {M : Type 1} → statement M
+read-rows-spec =
+    tie.close
+    (tie.spec
+    Inv-loop
+    μ-loop
+    loop-holds
+    sub-read-row
+    read-row-requires
+    enum-known-row
+    returns
+    enum-known-row-2
+    word-at-requires
+    kind-requires
+    returns-2
+    add-i
+    loop-less
+    loop-again
+    read-row-requires-2
+    returns-3)

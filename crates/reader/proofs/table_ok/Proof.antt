@@ -1,0 +1,56 @@
+use Rattle.reader.proofs.Tests.{table-fields}
+use borrow.Author.Needs.{needs}
+use Rattle.reader.proofs.table_ok.Statement.{statement}
+use Rattle.reader.proofs.table_ok.Tie as tie
+use Rattle.reader.proofs.table_ok.Reads as reads
+use Rattle.reader.proofs.table_ok.Lts as lts
+use Rattle.index.proofs.word_at.Reads as word-at-reads
+use Rattle.reader.proofs.within.Reads as within-reads
+use Rattle.word.proofs.class_read.Reads as class-read-reads
+use Rattle.word.proofs.defined.Reads as defined-reads
+use Rattle.word.proofs.sort.Reads as sort-reads
+
+-- src/lib.rt:292:9
+word-at-requires : tie.Need-word-at-requires
+word-at-requires c κs = search needs
+
+-- src/lib.rt:293:30
+sort-requires : tie.Need-sort-requires
+sort-requires c κs = search needs
+
+-- src/lib.rt:293:9
+within-requires : tie.Need-within-requires
+within-requires c κs = search needs
+
+-- src/lib.rt:294:13
+defined-requires : tie.Need-defined-requires
+defined-requires c κs = search needs
+
+-- src/lib.rt:294:13
+cast-v : tie.Need-cast-v
+cast-v c = search needs
+
+-- src/lib.rt:295:13
+class-read-requires : tie.Need-class-read-requires
+class-read-requires c κs = search needs
+
+-- src/lib.rt:295:13
+cast-m : tie.Need-cast-m
+cast-m c = search needs
+
+-- src/lib.rt:289:1
+returns : tie.Need-returns
+returns c = search table-fields
+
+pub table-ok-spec : {M : Type 1} → statement M
+table-ok-spec =
+    tie.close
+    (tie.spec
+    word-at-requires
+    sort-requires
+    within-requires
+    defined-requires
+    cast-v
+    class-read-requires
+    cast-m
+    returns)

@@ -1,0 +1,45 @@
+use Rattle.reader.proofs.Tests.{variable-fields}
+use borrow.Author.Needs.{needs}
+use Rattle.reader.proofs.variable_ok.Statement.{statement}
+use Rattle.reader.proofs.variable_ok.Tie as tie
+use Rattle.reader.proofs.variable_ok.Reads as reads
+use Rattle.reader.proofs.variable_ok.Lts as lts
+use Rattle.reader.proofs.within.Reads as within-reads
+use Rattle.word.proofs.initial.Reads as initial-reads
+use Rattle.word.proofs.size.Reads as size-reads
+use Rattle.word.proofs.sort.Reads as sort-reads
+
+-- src/lib.rt:74:9
+sort-requires : tie.Need-sort-requires
+sort-requires c κs = search needs
+
+-- src/lib.rt:75:9
+size-requires : tie.Need-size-requires
+size-requires c κs = search needs
+
+-- src/lib.rt:76:9
+initial-requires : tie.Need-initial-requires
+initial-requires c κs = search needs
+
+-- src/lib.rt:77:9
+within-requires : tie.Need-within-requires
+within-requires c κs = search needs
+
+-- src/lib.rt:78:9
+within-requires-2 : tie.Need-within-requires-2
+within-requires-2 c κs = search needs
+
+-- src/lib.rt:71:1
+returns : tie.Need-returns
+returns c = search variable-fields
+
+pub variable-ok-spec : {M : Type 1} → statement M
+variable-ok-spec =
+    tie.close
+    (tie.spec
+    sort-requires
+    size-requires
+    initial-requires
+    within-requires
+    within-requires-2
+    returns)

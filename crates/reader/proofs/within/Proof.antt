@@ -1,0 +1,15 @@
+use borrow.Author.Needs.{needs}
+use mathlib.Core.Path.{refl}
+use Rattle.meaning.specs.Searches.{within}
+use Rattle.reader.proofs.within.Statement.{statement}
+use Rattle.reader.proofs.within.Tie as tie
+use Rattle.reader.proofs.within.Reads as reads
+use Rattle.reader.proofs.within.Lts as lts
+
+-- src/lib.rt:38:1
+returns : tie.Need-returns
+unfolding within
+returns c = refl
+
+pub within-spec : {M : Type 1} → statement M
+within-spec = tie.close (tie.spec returns)

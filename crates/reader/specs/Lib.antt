@@ -1,0 +1,4 @@
+pub mod Formulas
+pub mod Tables
+pub mod Counts
+pub mod Typed
