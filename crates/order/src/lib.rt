@@ -13,6 +13,7 @@ ghost use lib.ListN.{length, getD, take};
 ghost use lib.Bits.{bitOr};
 ghost use Rattle.word.specs.Limits as Max;
 ghost use Rattle.order.specs.Masks.{bitIn, oneBit, conditionMask, eventMask, formulaMask, rowsMask, tableMask, masksAt};
+ghost use Rattle.order.specs.Orders.{covered, untakenBy, readyBy, leastReady, foundOf, orderBy, takenBy, leastStuck, stuckRead, moveBy, shownBy, backBy, cycleSaid, cycleBy, orderAt, noCycleAt};
 
 // What a formula reads, and the place after it.
 pub struct Masked {
@@ -149,4 +150,188 @@ fn fill_masks(words: &[u32], places: &[usize], masks: &mut [u32])
     for v in 0..32usize {
         masks[v] = table_mask(words, places, v);
     }
+}
+
+// ---- the dependency order
+fn mask_of(masks: &[u32], v: usize) -> u32
+    ensures { λ r. ⌜ r ≡ getD (now (masks .entry)) v 0 ⌝ }
+{
+    if v < masks.len() { masks[v] } else { 0 }
+}
+
+fn untaken(taken: u32, v: usize) -> bool
+    requires { ⌜ v < 32 ⌝ }
+    ensures { λ r. ⌜ r ≡ untakenBy taken v ⌝ }
+{
+    !bit(taken, v)
+}
+
+// Is b read and not yet taken?
+fn missing(m: u32, taken: u32, b: usize) -> bool
+    requires { ⌜ b < 32 ⌝ }
+    ensures { λ r. ⌜ r ≡ not (not (bitIn m b) || bitIn taken b) ⌝ }
+{
+    let x = bit(m, b);
+    let y = bit(taken, b);
+    !(!x | y)
+}
+
+fn all_taken(m: u32, taken: u32, n: usize) -> bool
+    requires { ⌜ n ≤ 32 ⌝ }
+    ensures { λ r. ⌜ r ≡ covered m taken n ⌝ }
+{
+    for b in 0..n {
+        if missing(m, taken, b) {
+            return false;
+        }
+    }
+    true
+}
+
+// Is v untaken, and all that it reads taken?
+fn ready(masks: &[u32], n: usize, taken: u32, v: usize) -> bool
+    requires { ⌜ (n ≤ 32) × (v < n) ⌝ }
+    ensures { λ r. ⌜ r ≡ readyBy (now (masks .entry)) n taken v ⌝ }
+{
+    let x = untaken(taken, v);
+    let m = mask_of(masks, v);
+    let y = all_taken(m, taken, n);
+    x & y
+}
+
+// The lowest number that passed a test.
+pub enum Found {
+    At(usize),
+    Nothing,
+}
+
+fn next_ready(masks: &[u32], n: usize, taken: u32) -> Found
+    requires { ⌜ n ≤ 32 ⌝ }
+    ensures { λ r. ⌜ r ≡ foundOf (leastReady (now (masks .entry)) n taken) ⌝ }
+{
+    for v in 0..n {
+        if ready(masks, n, taken, v) {
+            return Found::At(v);
+        }
+    }
+    Found::Nothing
+}
+
+// Writes the order and gives the mask of the variables in it.
+fn take_ready(masks: &[u32], n: usize, order: &mut [usize]) -> u32
+    requires { ⌜ (n ≤ 32) × (length (now order) ≡ 32) ⌝ }
+    ensures { λ r. ⌜ r ≡ takenBy (now (masks .entry)) n ⌝ }
+    ensures { λ r. ⌜ take (length (orderBy (now (masks .entry)) n)) (now (order .exit)) ≡ orderBy (now (masks .entry)) n ⌝ }
+    ensures { λ r. ⌜ length (now (order .exit)) ≡ 32 ⌝ }
+{
+    let mut taken = 0u32;
+    for i in 0..n {
+        let f = next_ready(masks, n, taken);
+        match f {
+            Found::Nothing => return taken,
+            Found::At(v) => {
+                order[i] = v;
+                taken = taken | one_bit(v);
+            }
+        }
+    }
+    taken
+}
+
+// ---- the cycle shown
+fn lowest_stuck(n: usize, taken: u32) -> Found
+    requires { ⌜ n ≤ 32 ⌝ }
+    ensures { λ r. ⌜ r ≡ foundOf (leastStuck taken n) ⌝ }
+{
+    for v in 0..n {
+        if untaken(taken, v) {
+            return Found::At(v);
+        }
+    }
+    Found::Nothing
+}
+
+// Is b stuck and read?
+fn stuck_read(m: u32, taken: u32, b: usize) -> bool
+    requires { ⌜ b < 32 ⌝ }
+    ensures { λ r. ⌜ r ≡ stuckRead m taken b ⌝ }
+{
+    let x = untaken(taken, b);
+    let y = bit(m, b);
+    x & y
+}
+
+// The lowest stuck variable that v reads. A stuck variable reads one, so v itself is never the answer for want of another.
+fn move_on(masks: &[u32], n: usize, taken: u32, v: usize) -> usize
+    requires { ⌜ n ≤ 32 ⌝ }
+    ensures { λ r. ⌜ r ≡ moveBy (now (masks .entry)) n taken v ⌝ }
+{
+    let m = mask_of(masks, v);
+    for b in 0..n {
+        if stuck_read(m, taken, b) {
+            return b;
+        }
+    }
+    v
+}
+
+// 32 moves are enough to be on a cycle, whatever the way to it.
+fn go_round(masks: &[u32], n: usize, taken: u32, v: usize) -> usize
+    requires { ⌜ n ≤ 32 ⌝ }
+    ensures { λ r. ⌜ r ≡ shownBy (now (masks .entry)) n taken v ⌝ }
+{
+    let mut u = v;
+    for i in 0..32usize {
+        u = move_on(masks, n, taken, u);
+    }
+    u
+}
+
+// The least number of moves, at least 1, from w back to w.
+fn moves_back(masks: &[u32], n: usize, taken: u32, w: usize) -> usize
+    requires { ⌜ n ≤ 32 ⌝ }
+    ensures { λ r. ⌜ r ≡ backBy (now (masks .entry)) n taken w ⌝ }
+{
+    let mut u = w;
+    for k in 0..n {
+        u = move_on(masks, n, taken, u);
+        if u == w {
+            return k + 1;
+        }
+    }
+    1
+}
+
+// Every variable is in the order; or the variable shown and the length of its cycle.
+pub enum Order {
+    All,
+    Cycle(usize, usize),
+}
+
+fn find_cycle(masks: &[u32], n: usize, taken: u32) -> Order
+    requires { ⌜ n ≤ 32 ⌝ }
+    ensures { λ r. ⌜ cycleSaid r ≡ cycleBy (now (masks .entry)) n taken ⌝ }
+{
+    let f = lowest_stuck(n, taken);
+    match f {
+        Found::Nothing => Order::All,
+        Found::At(v) => {
+            let w = go_round(masks, n, taken, v);
+            let m = moves_back(masks, n, taken, w);
+            Order::Cycle(w, m)
+        }
+    }
+}
+
+// Writes the dependency order of a set that has been read to the front of `order`, as far as it goes.
+pub fn order_tables(words: &[u32], places: &[usize], n: usize, order: &mut [usize]) -> Order
+    requires { ⌜ (n ≤ 32) × (length (now order) ≡ 32) ⌝ }
+    ensures { λ r. ⌜ cycleSaid r ≡ noCycleAt (now (words .entry)) (now (places .entry)) n ⌝ }
+    ensures { λ r. ⌜ take (length (orderAt (now (words .entry)) (now (places .entry)) n)) (now (order .exit)) ≡ orderAt (now (words .entry)) (now (places .entry)) n ⌝ }
+    ensures { λ r. ⌜ length (now (order .exit)) ≡ 32 ⌝ }
+{
+    let mut masks = [0u32; 32];
+    fill_masks(words, places, &mut masks);
+    let taken = take_ready(&masks, n, order);
+    find_cycle(&masks, n, taken)
 }
