@@ -1,12 +1,12 @@
 -- Laws of the scans for masks, one for each way out of a function.
 use Prim.Native.Nat.{ℕ, zero, suc, _+_, _-_, _*_, _/_, _%_, _^_, _≤_, _<_}
 use mathlib.Core.Path.{_≡_, refl, sym, ap, _∙_}
-use mathlib.Core.Bool.{Bool, true, false}
-use mathlib.Core.List.{List, [], _∷_, _++_}
+use mathlib.Core.Bool.{true, false}
+use mathlib.Core.List.{List, [], _∷_}
 use native.Mathlib.Omega.{arith}
 use native.Mathlib.Nat.{one-mul}
 use native.Mathlib.Numerals.{sub-one, add-one}
-use lib.Dec.{eqb, leb, ltb, lit<}
+use lib.Dec.{eqb, leb, lit<}
 use lib.Bits.{bitAnd, bitOr, and-mask}
 use lib.Pow.{shl-exact}
 use lib.ListN.{length, getD, set, take}
@@ -177,7 +177,7 @@ table-none ws ps v p ep e = rw (← ep, e)
 
 table-by : (ws : List ℕ) (p : ℕ) → (p ≡ 0 → ⊥)
     → rowsMask ws (W.sort (word ws (p - 1))) Max.max-rows p
-      (if eqb (W.sort (word ws (p - 1))) 3 then (λ _. oneBit (W.class-read (word ws (p - 1)))) else (λ _. 0)) ≡ tableMask ws p
+    (if eqb (W.sort (word ws (p - 1))) 3 then (λ _. oneBit (W.class-read (word ws (p - 1)))) else (λ _. 0)) ≡ tableMask ws p
 unfolding tableMask
 table-by ws zero n = absurd (n refl)
 table-by ws (suc i) n = rw (sub-one (suc i))

@@ -13,7 +13,6 @@ use lib.Bits.{bitOr}
 use lib.ListN.{length, getD, set, take, length-take}
 use lib.Seq.{take-suc-set}
 use borrow.Author.Tests.{not-true, not-false, eq-eqb, ne-eqb}
-use Rattle.word.specs.Limits as Max
 use Rattle.meaning.specs.Searches.{orHere, least, orElse, all-below, iterate}
 use Rattle.meaning.specs.Order.{taking}
 use Rattle.order.specs.declared.Found.{Found}

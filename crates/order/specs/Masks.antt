@@ -65,8 +65,8 @@ module _ (ws : List ℕ) where
   rowsMask t (suc left) p m =
       if leb (length ws) p then (λ _. m)
       else λ _.
-        let j = formulaMask t (suc p) in
-        if eqb (W.kind (word ws (j .next))) 3 then (λ _. rowsMask t left (j .next) (bitOr m (j .mask))) else (λ _. bitOr m (j .mask))
+      let j = formulaMask t (suc p) in
+      if eqb (W.kind (word ws (j .next))) 3 then (λ _. rowsMask t left (j .next) (bitOr m (j .mask))) else (λ _. bitOr m (j .mask))
 
   -- the table whose first row stands at a place
   unfoldable pub tableMask : ℕ → ℕ

@@ -21,7 +21,7 @@ unfoldable pub foundOf : Option ℕ → Found
 foundOf none = Nothing
 foundOf (some v) = At v
 
--- this paper's number and values for each case
+-- document 01's number and values for each case
 unfoldable pub cycleSaid : Order → Outcome (Unit {0})
 cycleSaid All = ok tt
 cycleSaid (Cycle w m) = refuse 9 (w ∷ m ∷ [])

@@ -7,18 +7,17 @@ use word::kind;
 use word::sort;
 use word::variable;
 ghost use mathlib.Core.Path.{_≡_};
-ghost use mathlib.Core.Bool.{Bool, not, _&&_, _||_};
-ghost use Prim.Native.Nat.{ℕ, _≤_, _<_};
+ghost use mathlib.Core.Bool.{not, _||_};
+ghost use Prim.Native.Nat.{_≤_, _<_};
 ghost use lib.ListN.{length, getD, take};
-ghost use lib.Bits.{bitOr};
 ghost use Rattle.word.specs.Limits as Max;
 ghost use Rattle.order.specs.Masks.{bitIn, oneBit, conditionMask, eventMask, formulaMask, rowsMask, tableMask, masksAt};
 ghost use Rattle.order.specs.Orders.{covered, untakenBy, readyBy, leastReady, foundOf, orderBy, takenBy, leastStuck, stuckRead, moveBy, shownBy, backBy, cycleSaid, cycleBy, orderAt, noCycleAt};
 
 // What a formula reads, and the place after it.
-pub struct Masked {
-    pub mask: u32,
-    pub next: usize,
+struct Masked {
+    mask: u32,
+    next: usize,
 }
 
 // The mask of variable v alone; none from 32 on, as for 255, the class of a table without one.
@@ -53,13 +52,19 @@ fn condition_mask(words: &[u32], at: usize, left: usize) -> Masked
     let on = at + 1;
     let d = left - 1;
     match kind(w) {
-        4 => Masked { mask: one_bit(variable(w) as usize), next: on },
+        4 => Masked {
+            mask: one_bit(variable(w) as usize),
+            next: on,
+        },
         9 => Masked { mask: 0, next: on },
         5 => condition_mask(words, on, d),
         _ => {
             let a = condition_mask(words, on, d);
             let b = condition_mask(words, a.next, d);
-            Masked { mask: a.mask | b.mask, next: b.next }
+            Masked {
+                mask: a.mask | b.mask,
+                next: b.next,
+            }
         }
     }
 }
@@ -82,12 +87,18 @@ fn event_mask(words: &[u32], at: usize, left: usize) -> Masked
         7 => {
             let a = event_mask(words, on, d);
             let b = event_mask(words, a.next, d);
-            Masked { mask: a.mask | b.mask, next: b.next }
+            Masked {
+                mask: a.mask | b.mask,
+                next: b.next,
+            }
         }
         _ => {
             let a = condition_mask(words, on, d);
             let b = condition_mask(words, a.next, d);
-            Masked { mask: a.mask, next: b.next }
+            Masked {
+                mask: a.mask,
+                next: b.next,
+            }
         }
     }
 }
@@ -152,7 +163,7 @@ fn fill_masks(words: &[u32], places: &[usize], masks: &mut [u32])
     }
 }
 
-// ---- the dependency order
+// ---- the dependency order; `taken` is the mask of the variables taken so far
 fn mask_of(masks: &[u32], v: usize) -> u32
     ensures { λ r. ⌜ r ≡ getD (now (masks .entry)) v 0 ⌝ }
 {
@@ -200,7 +211,7 @@ fn ready(masks: &[u32], n: usize, taken: u32, v: usize) -> bool
 }
 
 // The lowest number that passed a test.
-pub enum Found {
+enum Found {
     At(usize),
     Nothing,
 }
@@ -238,7 +249,7 @@ fn take_ready(masks: &[u32], n: usize, order: &mut [usize]) -> u32
     taken
 }
 
-// ---- the cycle shown
+// ---- the cycle shown; `taken` is the mask of all that is ever taken, so the others are stuck
 fn lowest_stuck(n: usize, taken: u32) -> Found
     requires { ⌜ n ≤ 32 ⌝ }
     ensures { λ r. ⌜ r ≡ foundOf (leastStuck taken n) ⌝ }
@@ -261,7 +272,7 @@ fn stuck_read(m: u32, taken: u32, b: usize) -> bool
     x & y
 }
 
-// The lowest stuck variable that v reads. A stuck variable reads one, so v itself is never the answer for want of another.
+// The lowest stuck variable that v reads; v where it reads none, which is never so of a stuck one.
 fn move_on(masks: &[u32], n: usize, taken: u32, v: usize) -> usize
     requires { ⌜ n ≤ 32 ⌝ }
     ensures { λ r. ⌜ r ≡ moveBy (now (masks .entry)) n taken v ⌝ }
@@ -275,8 +286,8 @@ fn move_on(masks: &[u32], n: usize, taken: u32, v: usize) -> usize
     v
 }
 
-// 32 moves are enough to be on a cycle, whatever the way to it.
-fn go_round(masks: &[u32], n: usize, taken: u32, v: usize) -> usize
+// The variable shown. 32 moves from any stuck variable end on a cycle, for there are at most 32 variables.
+fn shown_from(masks: &[u32], n: usize, taken: u32, v: usize) -> usize
     requires { ⌜ n ≤ 32 ⌝ }
     ensures { λ r. ⌜ r ≡ shownBy (now (masks .entry)) n taken v ⌝ }
 {
@@ -287,7 +298,7 @@ fn go_round(masks: &[u32], n: usize, taken: u32, v: usize) -> usize
     u
 }
 
-// The least number of moves, at least 1, from w back to w.
+// The least number of moves, at least 1, from w back to w. The variable shown is met again within n moves.
 fn moves_back(masks: &[u32], n: usize, taken: u32, w: usize) -> usize
     requires { ⌜ n ≤ 32 ⌝ }
     ensures { λ r. ⌜ r ≡ backBy (now (masks .entry)) n taken w ⌝ }
@@ -316,14 +327,14 @@ fn find_cycle(masks: &[u32], n: usize, taken: u32) -> Order
     match f {
         Found::Nothing => Order::All,
         Found::At(v) => {
-            let w = go_round(masks, n, taken, v);
+            let w = shown_from(masks, n, taken, v);
             let m = moves_back(masks, n, taken, w);
             Order::Cycle(w, m)
         }
     }
 }
 
-// Writes the dependency order of a set that has been read to the front of `order`, as far as it goes.
+// Writes the dependency order to the front of `order`, as far as it goes. What stands after it has no meaning.
 pub fn order_tables(words: &[u32], places: &[usize], n: usize, order: &mut [usize]) -> Order
     requires { ⌜ (n ≤ 32) × (length (now order) ≡ 32) ⌝ }
     ensures { λ r. ⌜ cycleSaid r ≡ noCycleAt (now (words .entry)) (now (places .entry)) n ⌝ }

@@ -4,7 +4,7 @@ use Rattle.order.proofs.find_cycle.Statement.{statement}
 use Rattle.order.proofs.find_cycle.Tie as tie
 use Rattle.order.proofs.find_cycle.Reads as reads
 use Rattle.order.proofs.find_cycle.Lts as lts
-use Rattle.order.proofs.go_round.Reads as go-round-reads
+use Rattle.order.proofs.shown_from.Reads as shown-from-reads
 use Rattle.order.proofs.lowest_stuck.Reads as lowest-stuck-reads
 use Rattle.order.proofs.moves_back.Reads as moves-back-reads
 
@@ -21,8 +21,8 @@ enum-known-f : tie.Need-enum-known-f
 enum-known-f c = search needs
 
 -- src/lib.rt:319:17
-go-round-requires : tie.Need-go-round-requires
-go-round-requires c κs = search needs
+shown-from-requires : tie.Need-shown-from-requires
+shown-from-requires c κs = search needs
 
 -- src/lib.rt:320:17
 moves-back-requires : tie.Need-moves-back-requires
@@ -43,7 +43,7 @@ find-cycle-spec =
     lowest-stuck-requires
     enum-told
     enum-known-f
-    go-round-requires
+    shown-from-requires
     moves-back-requires
     returns
     returns-2)

@@ -4,10 +4,10 @@ use Prim.Native.Nat.{_≤_, _-_}
 use Rattle.meaning.specs.Searches.{iterate}
 use Rattle.order.specs.Orders.{moveBy}
 use Rattle.order.proofs.Takes.{moves-none, moves-on, moves-all}
-use Rattle.order.proofs.go_round.Statement.{statement}
-use Rattle.order.proofs.go_round.Tie as tie
-use Rattle.order.proofs.go_round.Reads as reads
-use Rattle.order.proofs.go_round.Lts as lts
+use Rattle.order.proofs.shown_from.Statement.{statement}
+use Rattle.order.proofs.shown_from.Tie as tie
+use Rattle.order.proofs.shown_from.Reads as reads
+use Rattle.order.proofs.shown_from.Lts as lts
 use Rattle.order.proofs.move_on.Reads as move-on-reads
 
 abbrev Inv-loop : tie.InvT-loop
@@ -40,7 +40,7 @@ loop-again c = (search needs, search moves-on)
 returns : tie.Need-returns Inv-loop μ-loop
 returns c = search moves-all
 
-pub go-round-spec : {M : Type 1} → statement M
-go-round-spec =
+pub shown-from-spec : {M : Type 1} → statement M
+shown-from-spec =
     tie.close
     (tie.spec Inv-loop μ-loop loop-holds move-on-requires add-i loop-less loop-again returns)
