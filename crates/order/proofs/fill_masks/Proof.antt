@@ -1,0 +1,68 @@
+use borrow.Author.Needs.{needs}
+use mathlib.Core.Path.{_≡_}
+use Prim.Native.Nat.{_≤_, _-_}
+use lib.ListN.{length, take, length-set}
+use Rattle.order.proofs.Scans.{masksTo, masks-none, masks-on, masks-all}
+use Rattle.order.proofs.fill_masks.Statement.{statement}
+use Rattle.order.proofs.fill_masks.Tie as tie
+use Rattle.order.proofs.fill_masks.Reads as reads
+use Rattle.order.proofs.fill_masks.Lts as lts
+use Rattle.order.proofs.table_mask.Reads as table-mask-reads
+
+abbrev Inv-loop : tie.InvT-loop
+Inv-loop words places masks₀ v₀ masks v = (v ≤ 32) × (length masks ≡ 32) × (take v masks ≡ masksTo words places v)
+
+abbrev μ-loop : tie.MeasureT-loop
+μ-loop words places masks₀ v₀ masks v = 32 - v
+
+-- src/lib.rt:149:5
+loop-holds : tie.Need-loop-holds Inv-loop μ-loop
+loop-holds c = (search needs, search needs, search masks-none)
+
+-- src/lib.rt:150:20
+table-mask-requires : tie.Need-table-mask-requires Inv-loop μ-loop
+table-mask-requires c κs = search needs
+
+-- src/lib.rt:150:9
+mul-masks : tie.Need-mul-masks Inv-loop μ-loop
+mul-masks c = search needs
+
+-- src/lib.rt:150:9
+slice-write-masks : tie.Need-slice-write-masks Inv-loop μ-loop
+slice-write-masks c = search needs
+
+-- src/lib.rt:149:9
+add-v : tie.Need-add-v Inv-loop μ-loop
+add-v c = search needs
+
+-- src/lib.rt:149:5
+loop-less : tie.Need-loop-less Inv-loop μ-loop
+loop-less c = search needs
+
+-- src/lib.rt:149:5
+loop-again : tie.Need-loop-again Inv-loop μ-loop
+loop-again c = (search needs, simp length-set (search needs), search masks-on)
+
+-- src/lib.rt:145:1
+same-length : tie.Need-same-length Inv-loop μ-loop
+same-length c = search needs
+
+-- src/lib.rt:145:1
+returns : tie.Need-returns Inv-loop μ-loop
+returns c = search masks-all
+
+pub fill-masks-spec : {M : Type 1} → statement M
+fill-masks-spec =
+    tie.close
+    (tie.spec
+    Inv-loop
+    μ-loop
+    loop-holds
+    table-mask-requires
+    mul-masks
+    slice-write-masks
+    add-v
+    loop-less
+    loop-again
+    same-length
+    returns)

@@ -1,0 +1,28 @@
+use Rattle.order.proofs.Scans.{formula-condition, formula-event}
+use borrow.Author.Needs.{needs}
+use Rattle.order.proofs.formula_mask.Statement.{statement}
+use Rattle.order.proofs.formula_mask.Tie as tie
+use Rattle.order.proofs.formula_mask.Reads as reads
+use Rattle.order.proofs.formula_mask.Lts as lts
+use Rattle.order.proofs.condition_mask.Reads as condition-mask-reads
+use Rattle.order.proofs.event_mask.Reads as event-mask-reads
+
+-- src/lib.rt:99:9
+condition-mask-requires : tie.Need-condition-mask-requires
+condition-mask-requires c κs = search needs
+
+-- src/lib.rt:101:9
+event-mask-requires : tie.Need-event-mask-requires
+event-mask-requires c κs = search needs
+
+-- src/lib.rt:95:1
+returns : tie.Need-returns
+returns c = search formula-condition
+
+-- src/lib.rt:95:1
+returns-2 : tie.Need-returns-2
+returns-2 c = search formula-event
+
+pub formula-mask-spec : {M : Type 1} → statement M
+formula-mask-spec =
+    tie.close (tie.spec condition-mask-requires event-mask-requires returns returns-2)

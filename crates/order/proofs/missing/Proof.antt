@@ -1,0 +1,22 @@
+use Rattle.order.proofs.Takes.{missing-is}
+use borrow.Author.Needs.{needs}
+use Rattle.order.proofs.missing.Statement.{statement}
+use Rattle.order.proofs.missing.Tie as tie
+use Rattle.order.proofs.missing.Reads as reads
+use Rattle.order.proofs.missing.Lts as lts
+use Rattle.order.proofs.bit.Reads as bit-reads
+
+-- src/lib.rt:167:9
+bit-requires : tie.Need-bit-requires
+bit-requires c κs = search needs
+
+-- src/lib.rt:168:9
+bit-requires-2 : tie.Need-bit-requires-2
+bit-requires-2 c κs = search needs
+
+-- src/lib.rt:163:1
+returns : tie.Need-returns
+returns c = search missing-is
+
+pub missing-spec : {M : Type 1} → statement M
+missing-spec = tie.close (tie.spec bit-requires bit-requires-2 returns)

@@ -1,0 +1,28 @@
+use Rattle.order.proofs.Takes.{ready-is}
+use borrow.Author.Needs.{needs}
+use Rattle.order.proofs.ready.Statement.{statement}
+use Rattle.order.proofs.ready.Tie as tie
+use Rattle.order.proofs.ready.Reads as reads
+use Rattle.order.proofs.ready.Lts as lts
+use Rattle.order.proofs.all_taken.Reads as all-taken-reads
+use Rattle.order.proofs.mask_of.Reads as mask-of-reads
+use Rattle.order.proofs.untaken.Reads as untaken-reads
+
+-- src/lib.rt:196:9
+untaken-requires : tie.Need-untaken-requires
+untaken-requires c κs = search needs
+
+-- src/lib.rt:197:9
+mask-of-requires : tie.Need-mask-of-requires
+mask-of-requires c κs = search needs
+
+-- src/lib.rt:198:9
+all-taken-requires : tie.Need-all-taken-requires
+all-taken-requires c κs = search needs
+
+-- src/lib.rt:192:1
+returns : tie.Need-returns
+returns c = search ready-is
+
+pub ready-spec : {M : Type 1} → statement M
+ready-spec = tie.close (tie.spec untaken-requires mask-of-requires all-taken-requires returns)

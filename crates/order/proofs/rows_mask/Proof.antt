@@ -1,0 +1,80 @@
+use borrow.Author.Needs.{needs}
+use mathlib.Core.Path.{_≡_, refl}
+use Prim.Native.Nat.{_≤_, _-_}
+use Rattle.order.specs.Masks.{rowsMask}
+use Rattle.order.proofs.Scans.{rows-past, rows-last, rows-on, rows-all}
+use Rattle.order.proofs.rows_mask.Statement.{statement}
+use Rattle.order.proofs.rows_mask.Tie as tie
+use Rattle.order.proofs.rows_mask.Reads as reads
+use Rattle.order.proofs.rows_mask.Lts as lts
+use Rattle.index.proofs.word_at.Reads as word-at-reads
+use Rattle.order.proofs.formula_mask.Reads as formula-mask-reads
+use Rattle.word.proofs.kind.Reads as kind-reads
+
+abbrev Inv-loop : tie.InvT-loop
+Inv-loop words t at first mask₀ on₀ i₀ mask on i = (i ≤ 64) × (rowsMask words t (64 - i) on mask ≡ rowsMask words t 64 at first)
+
+abbrev μ-loop : tie.MeasureT-loop
+μ-loop words t at first mask₀ on₀ i₀ mask on i = 64 - i
+
+-- src/lib.rt:111:5
+loop-holds : tie.Need-loop-holds Inv-loop μ-loop
+loop-holds c = (search needs, refl)
+
+-- src/lib.rt:113:13
+returns : tie.Need-returns Inv-loop μ-loop
+returns c = search rows-past
+
+-- src/lib.rt:115:40
+add-formula-mask : tie.Need-add-formula-mask Inv-loop μ-loop
+add-formula-mask c = search needs
+
+-- src/lib.rt:115:13
+formula-mask-requires : tie.Need-formula-mask-requires Inv-loop μ-loop
+formula-mask-requires c κs = search needs
+
+-- src/lib.rt:118:13
+word-at-requires : tie.Need-word-at-requires Inv-loop μ-loop
+word-at-requires c κs = search needs
+
+-- src/lib.rt:119:12
+kind-requires : tie.Need-kind-requires Inv-loop μ-loop
+kind-requires c κs = search needs
+
+-- src/lib.rt:120:13
+returns-2 : tie.Need-returns-2 Inv-loop μ-loop
+returns-2 c = search rows-last
+
+-- src/lib.rt:111:9
+add-i : tie.Need-add-i Inv-loop μ-loop
+add-i c = search needs
+
+-- src/lib.rt:111:5
+loop-less : tie.Need-loop-less Inv-loop μ-loop
+loop-less c = search needs
+
+-- src/lib.rt:111:5
+loop-again : tie.Need-loop-again Inv-loop μ-loop
+loop-again c = (search needs, search rows-on)
+
+-- src/lib.rt:106:1
+returns-3 : tie.Need-returns-3 Inv-loop μ-loop
+returns-3 c = search rows-all
+
+pub rows-mask-spec : {M : Type 1} → statement M
+rows-mask-spec =
+    tie.close
+    (tie.spec
+    Inv-loop
+    μ-loop
+    loop-holds
+    returns
+    add-formula-mask
+    formula-mask-requires
+    word-at-requires
+    kind-requires
+    returns-2
+    add-i
+    loop-less
+    loop-again
+    returns-3)

@@ -1,0 +1,46 @@
+use borrow.Author.Needs.{needs}
+use mathlib.Core.Path.{_≡_}
+use Prim.Native.Nat.{_≤_, _-_}
+use Rattle.meaning.specs.Searches.{iterate}
+use Rattle.order.specs.Orders.{moveBy}
+use Rattle.order.proofs.Takes.{moves-none, moves-on, moves-all}
+use Rattle.order.proofs.shown_from.Statement.{statement}
+use Rattle.order.proofs.shown_from.Tie as tie
+use Rattle.order.proofs.shown_from.Reads as reads
+use Rattle.order.proofs.shown_from.Lts as lts
+use Rattle.order.proofs.move_on.Reads as move-on-reads
+
+abbrev Inv-loop : tie.InvT-loop
+Inv-loop masks n taken v u₀ i₀ u i = (i ≤ 32) × (u ≡ iterate (moveBy masks n taken) i v)
+
+abbrev μ-loop : tie.MeasureT-loop
+μ-loop masks n taken v u₀ i₀ u i = 32 - i
+
+-- src/lib.rt:284:5
+loop-holds : tie.Need-loop-holds Inv-loop μ-loop
+loop-holds c = (search needs, search moves-none)
+
+-- src/lib.rt:285:9
+move-on-requires : tie.Need-move-on-requires Inv-loop μ-loop
+move-on-requires c κs = search needs
+
+-- src/lib.rt:284:9
+add-i : tie.Need-add-i Inv-loop μ-loop
+add-i c = search needs
+
+-- src/lib.rt:284:5
+loop-less : tie.Need-loop-less Inv-loop μ-loop
+loop-less c = search needs
+
+-- src/lib.rt:284:5
+loop-again : tie.Need-loop-again Inv-loop μ-loop
+loop-again c = (search needs, search moves-on)
+
+-- src/lib.rt:279:1
+returns : tie.Need-returns Inv-loop μ-loop
+returns c = search moves-all
+
+pub shown-from-spec : {M : Type 1} → statement M
+shown-from-spec =
+    tie.close
+    (tie.spec Inv-loop μ-loop loop-holds move-on-requires add-i loop-less loop-again returns)

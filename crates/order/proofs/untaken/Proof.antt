@@ -1,0 +1,18 @@
+use Rattle.order.proofs.Takes.{untaken-is}
+use borrow.Author.Needs.{needs}
+use Rattle.order.proofs.untaken.Statement.{statement}
+use Rattle.order.proofs.untaken.Tie as tie
+use Rattle.order.proofs.untaken.Reads as reads
+use Rattle.order.proofs.untaken.Lts as lts
+use Rattle.order.proofs.bit.Reads as bit-reads
+
+-- src/lib.rt:166:6
+bit-requires : tie.Need-bit-requires
+bit-requires c κs = search needs
+
+-- src/lib.rt:162:1
+returns : tie.Need-returns
+returns c = search untaken-is
+
+pub untaken-spec : {M : Type 1} → statement M
+untaken-spec = tie.close (tie.spec bit-requires returns)
