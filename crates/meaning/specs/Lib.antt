@@ -19,3 +19,4 @@ pub mod Moved
 pub mod Passes
 pub mod Reached
 pub mod WrongReadings
+pub mod RefusalCases

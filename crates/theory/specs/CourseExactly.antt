@@ -18,7 +18,7 @@ use Rattle.meaning.specs.Check.{assertionAt}
 use Rattle.meaning.specs.Run.{Ran, runFrom}
 use Rattle.meaning.specs.Valued.{Holds, IsValuation, Faultless}
 use Rattle.meaning.specs.Moved.{Leads, IsNext, Clean, Course, end, done, not-done}
-use Rattle.meaning.specs.Passes.{NoStateFault, NoStepOverlap, Passes, FalseInitially, BrokenBy, Kept}
+use Rattle.meaning.specs.Passes.{NoStateFault, NoStepOverlap, Reads, Passes, FalseInitially, BrokenBy, Kept}
 use Rattle.meaning.specs.Reached.{InOrder, Ends}
 use Rattle.theory.specs.Tests.{true-not-false, either-way, mem-none, mem-cons}
 use Rattle.theory.specs.Found.{ok-not-refuse}
@@ -210,3 +210,12 @@ module _ (ws : List ℕ) (z : TableSet) (passes : Passes ws z) where
   -- "it ends with the list, or before a word that isn't enabled in the last state reached"
   pub passed-course-ends : (es ss : List ℕ) → Course z (initialState z) es ss → Ends z es ss
   passed-course-ends es ss c = course-ends c (initial-typed z Ac Wf Whole (passes .steps))
+
+-- "Every list of words has a course from every typed state": of every set that reads, passed or not, exactly one; and it is what a run
+-- works out.
+pub every-list-has-one-course : (ws : List ℕ) (z : TableSet) → Reads ws z → (s : ℕ) (es : List ℕ) → s < stateCount z
+    → Course z s es (s ∷ runFrom z 0 s es .done) × ((ss : List ℕ) → Course z s es ss → ss ≡ s ∷ runFrom z 0 s es .done)
+unfolding one-course
+every-list-has-one-course ws z r s es l =
+    let p = one-course z (order-exists z .1 (r .order)) (read-well-formed ws z (r .reads)) s es l in
+    (p .1, p .2)
