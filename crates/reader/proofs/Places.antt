@@ -123,10 +123,10 @@ module _ (ws : List ℕ) (vs : List Variable) where
       let e′ = rw (← ew) at (a .2) in
       let b = bind-fine (expect (tableOk vs w) 3 i) _ (t, j) e′ in
       let c = bind-fine (expect (tableFits vs w && not taken) 5 i) _ (t, j) (b .2) in
-      record
-      { free = not-true taken (second-of (tableFits vs w) (not taken) (expect-fine _ 5 i _ (c .1)))
-      ; below = defined-below vs w (expect-fine _ 3 i _ (b .1))
-      ; body-read = c .2
+      record {
+        free = not-true taken (second-of (tableFits vs w) (not taken) (expect-fine _ 5 i _ (c .1)));
+        below = defined-below vs w (expect-fine _ 3 i _ (b .1));
+        body-read = c .2;
       }
 
   -- its place goes to the entry of its variable
@@ -142,7 +142,7 @@ module _ (ws : List ℕ) (vs : List Variable) where
       go : Dec (u ≡ W.defined (word ws i)) → Placed ws vs (getD (set ps (W.defined (word ws i)) (suc i)) u 0) (tableOf (ts ++ (t ∷ [])) u)
       go (yes e) =
           let n : tableOf ts (W.defined (word ws i)) ≡ none
-              = has-none (tableOf ts (W.defined (word ws i))) (places-have ws vs ts ps ix (W.defined (word ws i)) ∙ r .free) in
+          = has-none (tableOf ts (W.defined (word ws i))) (places-have ws vs ts ps ix (W.defined (word ws i)) ∙ r .free) in
           rw (e, getD-set-same ps (W.defined (word ws i)) (suc i) 0 l, new-table t (W.defined (word ws i)) ts (eq-eqb (definedBy t) (W.defined (word ws i)) is) n)
           (there i j t (r .body-read))
       go (no e) =
@@ -180,7 +180,7 @@ module _ (ws : List ℕ) (vs : List Variable) (few : length vs ≤ Max.max-varia
           → ((t : Table) (j : ℕ) → readTable ws vs i (isPlaced ps (W.defined (word ws i))) ≡ fine (t, j)
           → Agree ws vs (readTables ws vs l j (ts ++ (t ∷ []))) (readPlaces ws vs l j (set ps (W.defined (word ws i)) (suc i))))
           → Agree ws vs (if b then (λ _. m >>> λ r. readTables ws vs l (r .1) (ts ++ (r .0 ∷ []))) else (λ _. fine (ts, i)))
-            (if b then (λ _. m >>> λ r. readPlaces ws vs l (r .1) (set ps (W.defined (word ws i)) (suc i))) else (λ _. fine (ps, i)))
+          (if b then (λ _. m >>> λ r. readPlaces ws vs l (r .1) (set ps (W.defined (word ws i)) (suc i))) else (λ _. fine (ps, i)))
       go true (fine r) e ih = ih (r .0) (r .1) e
       go true (stop k x) e ih = (refl, refl)
       go false m e ih = (refl, ix)

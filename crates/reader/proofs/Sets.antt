@@ -101,8 +101,13 @@ module _ {ws : List ℕ} {z : TableSet} {n a : ℕ} {ps : List ℕ} (ix : Indexe
   typed-is : readTyped ws ≡ (typedAt ws ps n >>= λ _. ok z)
   unfolding readTyped typedAt
   typed-is =
-      rw (ix .words-read, count-is, every-same (tabledAt ws ps) (tabled z) n tabled-is
-        , every-same (startsAtZeroAt ws ps) (startsAtZero z) n starts-is, every-same (fewStatesAt ws ps) (fewStates z) n few-is)
+      rw (
+        ix .words-read,
+        count-is,
+        every-same (tabledAt ws ps) (tabled z) n tabled-is,
+        every-same (startsAtZeroAt ws ps) (startsAtZero z) n starts-is,
+        every-same (fewStatesAt ws ps) (fewStates z) n few-is,
+      )
       (assoc (every (tabled z) n) (every (startsAtZero z) n) (every (fewStates z) n))
     where
       assoc : (x y w : Outcome (Unit {0})) → _≡_ {A = Outcome TableSet} (x >>= λ _. y >>= λ _. w >>= λ _. ok z) (x >>= (λ _. y >>= λ _. w) >>= λ _. ok z)
@@ -140,13 +145,14 @@ module _ (ws ps : List ℕ) (r : Words) (h : ReadAs ws r ps) where
     typed-set c p₀ e e₀ el =
         let s = rw er at h in
         let ix = s .1 in
-        let k = rw e at hq in
-        (s .0,
-         record
-         { typed = typed-is ix ∙ rw (k .0)
-         ; indexed = ix
-         ; places-long = rw e₀ at el
-         ; weights-long = k .1 .long
-         ; weights-are = λ v l. k .1 .weights v l ∙ weight-is ix v (omega arith)
-         ; states-are = rw (count-is ix) (k .1 .states ∙ weight-is ix n (omega arith))
-         })
+        let k = rw e at hq in (
+          s .0,
+          record {
+            typed = typed-is ix ∙ rw (k .0);
+            indexed = ix;
+            places-long = rw e₀ at el;
+            weights-long = k .1 .long;
+            weights-are = λ v l. k .1 .weights v l ∙ weight-is ix v (omega arith);
+            states-are = rw (count-is ix) (k .1 .states ∙ weight-is ix n (omega arith));
+          },
+        )

@@ -74,13 +74,14 @@ module _ (ws ps : List ℕ) where
         unfolding ReadAs
         words-all j f =
             let r = tables-read ws (variablesTo ws n) small n n a ps (rw (ea, e₀) at et) in
-            let c = reach-fine (readAssertions ws (variablesTo ws n) Max.max-assertions a) j (sym es ∙ f) in
-            (record { variables = variablesTo ws n; tables = r .0; assertions = c .0 },
-             record
-             { words-read = whole (r .0) (c .0) j (r .1) (c .1)
-             ; few = variables-few ws n v ev en
-             ; variables-are = refl
-             ; tables-are = r .2
-             ; last = j
-             ; assertions-are = c .1
-             })
+            let c = reach-fine (readAssertions ws (variablesTo ws n) Max.max-assertions a) j (sym es ∙ f) in (
+              record { variables = variablesTo ws n; tables = r .0; assertions = c .0 },
+              record {
+                words-read = whole (r .0) (c .0) j (r .1) (c .1);
+                few = variables-few ws n v ev en;
+                variables-are = refl;
+                tables-are = r .2;
+                last = j;
+                assertions-are = c .1;
+              },
+            )
