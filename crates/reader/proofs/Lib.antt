@@ -9,3 +9,4 @@ mod Assertions
 mod Places
 mod Whole
 mod Counts
+pub mod Sets

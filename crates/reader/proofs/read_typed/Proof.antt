@@ -1,3 +1,4 @@
+use Rattle.reader.proofs.Sets.{weights-long, read-few, typed-wrong, typed-refused, typed-set}
 use borrow.Author.Needs.{needs}
 use Rattle.reader.proofs.read_typed.Statement.{statement}
 use Rattle.reader.proofs.read_typed.Tie as tie
@@ -20,7 +21,7 @@ enum-known-read-2 c = search needs
 
 -- src/lib.rt:565:17
 count-states-requires : tie.Need-count-states-requires
-count-states-requires c κs = ?
+count-states-requires c κs = (search weights-long, search read-few)
 
 -- src/lib.rt:567:34
 enum-known-counted : tie.Need-enum-known-counted
@@ -36,7 +37,7 @@ same-length c = search needs
 
 -- src/lib.rt:557:1
 returns : tie.Need-returns
-returns c = ?
+returns c = search typed-wrong
 
 -- src/lib.rt:557:1
 same-length-2 : tie.Need-same-length-2
@@ -48,7 +49,7 @@ same-length-3 c = search needs
 
 -- src/lib.rt:557:1
 returns-2 : tie.Need-returns-2
-returns-2 c = ?
+returns-2 c = search typed-refused
 
 -- src/lib.rt:557:1
 same-length-4 : tie.Need-same-length-4
@@ -60,7 +61,7 @@ same-length-5 c = search needs
 
 -- src/lib.rt:557:1
 returns-3 : tie.Need-returns-3
-returns-3 c = ?
+returns-3 c = search typed-set
 
 pub read-typed-spec : {M : Type 1} → statement M
 read-typed-spec =

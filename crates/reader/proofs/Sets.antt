@@ -1,0 +1,158 @@
+-- What the index says of refusals 6 to 8 of the set that was read, and the laws of read_typed.
+use mathlib.Core.Path.{_≡_, refl, sym, ap, _∙_, subst}
+use mathlib.Core.Bool.{Bool, true, false, not, _||_}
+use mathlib.Core.List.{List, [], _∷_}
+use Prim.Native.Nat.{ℕ, zero, suc, _+_, _-_, _*_, _≤_, _<_}
+use native.Mathlib.Omega.{arith}
+use native.Mathlib.Numerals.{sub-one}
+use lib.Dec.{eqb, leb}
+use lib.ListN.{length, getD}
+use borrow.Author.Tests.{ne-eqb, eq-eqb}
+use Rattle.word.specs.Fields as W
+use Rattle.word.specs.Limits as Max
+use Rattle.meaning.specs.Answers.{Outcome, ok, refuse, _>>=_, demand, if_then_else_}
+use Rattle.meaning.specs.Searches.{every, product-below}
+use Rattle.meaning.specs.Syntax.{Variable, Table, TableSet}
+use Rattle.meaning.specs.Lookup.{variableAt, hasTable, Source, input, by-event, by-condition, count, sizeOf, isMonitored, source}
+use Rattle.meaning.specs.Reading.{word, variableOf, readWords}
+use Rattle.meaning.specs.States.{isHeld, radixBy, radix, weight, stateCount, initialOf, tabled, startsAtZero, fewStates, readTyped}
+use Rattle.index.specs.Places.{variablesTo}
+use Rattle.index.specs.Indexed.{Indexed}
+use Rattle.index.specs.Sources.{SourceAt, no-table, event-at, condition-at, source-at}
+use Rattle.index.proofs.Laws.{variables-length, variable-at}
+use Rattle.reader.specs.declared.Words.{Words}
+use Rattle.reader.specs.declared.Words.the-variants as D
+use Rattle.reader.specs.declared.Counted.{Counted}
+use Rattle.reader.specs.declared.Counted.the-variants as C
+use Rattle.reader.specs.declared.Typed.the-variants as T
+use Rattle.reader.specs.Tables.{isPlaced}
+use Rattle.reader.specs.Counts.{heldBy, heldAt, radixAt, weightAt, tabledAt, startsAtZeroAt, fewStatesAt, typedAt, WeightsTo, Weighed, CountedAs}
+use Rattle.reader.specs.Typed.{noPlaces, noWeights, ReadAs, TypedSet, TypedAs}
+use Rattle.reader.proofs.Places.{places-have}
+
+-- ---- by the source
+source-held : {ws : List ℕ} {vs : List Variable} {p : ℕ} {s : Source} → SourceAt ws vs p s → heldBy ws p ≡ isHeld s
+unfolding heldBy isHeld
+source-held no-table = refl
+source-held {ws} (event-at i j rs n e) =
+    rw (ne-eqb (suc i) 0 (λ q. (let z : ⊥ = omega arith in z)), sub-one (suc i), ne-eqb (W.sort (word ws i)) 3 n)
+source-held {ws} (condition-at i j rs t e) =
+    rw (ne-eqb (suc i) 0 (λ q. (let z : ⊥ = omega arith in z)), sub-one (suc i), eq-eqb (W.sort (word ws i)) 3 t)
+
+held-radix : (s : Source) (n : ℕ) → (if isHeld s then (λ _. n) else (λ _. 1)) ≡ radixBy s n
+unfolding isHeld radixBy
+held-radix input n = refl
+held-radix (by-event t) n = refl
+held-radix (by-condition t) n = refl
+
+-- ---- searches and products go by what they are given
+every-same : (f g : ℕ → Outcome (Unit {0})) (n : ℕ) → ((k : ℕ) → k < n → f k ≡ g k) → every f n ≡ every g n
+unfolding every
+every-same f g zero h = refl
+every-same f g (suc n) h = rw (every-same f g n (λ k l. h k (omega arith)), h n (omega arith))
+
+product-same : (f g : ℕ → ℕ) (n : ℕ) → ((k : ℕ) → k < n → f k ≡ g k) → product-below f n ≡ product-below g n
+unfolding product-below
+product-same f g zero h = refl
+product-same f g (suc n) h = rw (product-same f g n (λ k l. h k (omega arith)), h n (omega arith))
+
+-- ---- by the index
+module _ {ws : List ℕ} {z : TableSet} {n a : ℕ} {ps : List ℕ} (ix : Indexed ws z n a ps) where
+  pub count-is : count z ≡ n
+  count-is = rw (ix .variables-are) (variables-length ws n)
+
+  variable-is : (v : ℕ) → v < n → variableAt (z .variables) v ≡ variableOf (word ws v)
+  variable-is v l = rw (ix .variables-are) (variable-at ws n v l)
+
+  pub held-is : (v : ℕ) → heldAt ws ps v ≡ isHeld (source z v)
+  unfolding heldAt
+  held-is v = source-held (source-at ix v)
+
+  size-is : (v : ℕ) → v < n → W.size (word ws v) ≡ sizeOf z v
+  unfolding sizeOf variableOf
+  size-is v l = sym (ap (λ (x : Variable). x .size) (variable-is v l))
+
+  initial-is : (v : ℕ) → v < n → W.initial (word ws v) ≡ initialOf z v
+  unfolding initialOf variableOf
+  initial-is v l = sym (ap (λ (x : Variable). x .initial) (variable-is v l))
+
+  pub radix-is : (v : ℕ) → v < n → radixAt ws ps v ≡ radix z v
+  unfolding radixAt radix
+  radix-is v l =
+      rw (held-is v) (held-radix (source z v) (W.size (word ws v)) ∙ ap (λ (k : ℕ). radixBy (source z v) k) (size-is v l))
+
+  pub weight-is : (v : ℕ) → v ≤ n → weightAt ws ps v ≡ weight z v
+  unfolding weightAt weight
+  weight-is v l = product-same (radixAt ws ps) (radix z) v (λ k h. radix-is k (omega arith))
+
+  tabled-is : (v : ℕ) → v < n → tabledAt ws ps v ≡ tabled z v
+  unfolding tabledAt tabled isMonitored variableOf
+  tabled-is v l = rw (variable-is v l, places-have ws (variablesTo ws n) (z .tables) ps (ix .tables-are) v)
+
+  starts-is : (v : ℕ) → v < n → startsAtZeroAt ws ps v ≡ startsAtZero z v
+  unfolding startsAtZeroAt startsAtZero
+  starts-is v l =
+      rw (held-is v) (ap (λ (k : ℕ). demand (isHeld (source z v) || eqb k 0) 7 (v ∷ [])) (initial-is v l))
+
+  few-is : (v : ℕ) → v < n → fewStatesAt ws ps v ≡ fewStates z v
+  unfolding fewStatesAt fewStates
+  few-is v l = rw (weight-is (suc v) l)
+
+  typed-is : readTyped ws ≡ (typedAt ws ps n >>= λ _. ok z)
+  unfolding readTyped typedAt
+  typed-is =
+      rw (
+        ix .words-read,
+        count-is,
+        every-same (tabledAt ws ps) (tabled z) n tabled-is,
+        every-same (startsAtZeroAt ws ps) (startsAtZero z) n starts-is,
+        every-same (fewStatesAt ws ps) (fewStates z) n few-is,
+      )
+      (assoc (every (tabled z) n) (every (startsAtZero z) n) (every (fewStates z) n))
+    where
+      assoc : (x y w : Outcome (Unit {0})) → _≡_ {A = Outcome TableSet} (x >>= λ _. y >>= λ _. w >>= λ _. ok z) (x >>= (λ _. y >>= λ _. w) >>= λ _. ok z)
+      assoc (ok u) (ok t) w = refl
+      assoc (ok u) (refuse k xs) w = refl
+      assoc (refuse k xs) y w = refl
+
+-- the number of variables
+pub typed-count : {ws : List ℕ} {z : TableSet} {n a c : ℕ} {ps us : List ℕ} → TypedSet ws z n a c ps us → count z ≡ n
+typed-count t = count-is (t .indexed)
+
+-- ---- read_typed
+pub weights-long : (us : List ℕ) → us ≡ noWeights → length us ≡ Max.max-variables
+weights-long us e = rw e
+
+module _ (ws ps : List ℕ) (r : Words) (h : ReadAs ws r ps) where
+  pub read-few : (n a : ℕ) → r ≡ D.Read n a → n ≤ Max.max-variables
+  unfolding ReadAs
+  read-few n a e = (rw e at h) .1 .few
+
+  pub typed-wrong : (us : List ℕ) (k i : ℕ) → r ≡ D.Wrong k i → TypedAs ws (T.Refused k i) ps us
+  unfolding ReadAs TypedAs readTyped
+  typed-wrong us k i e = rw (rw e at h)
+
+  module _ (n a : ℕ) (er : r ≡ D.Read n a) (us : List ℕ) (q : Counted) (hq : CountedAs ws ps n (typedAt ws ps n) q us) where
+    pub typed-refused : (k v : ℕ) → q ≡ C.Refused k v → TypedAs ws (T.Refused k v) ps us
+    unfolding ReadAs TypedAs CountedAs
+    typed-refused k v e =
+        let ix = (rw er at h) .1 in
+        typed-is ix ∙ rw (rw e at hq)
+
+    pub typed-set : (c : ℕ) (p₀ : List ℕ) → q ≡ C.States c → p₀ ≡ noPlaces → length ps ≡ length p₀
+        → TypedAs ws (T.Set n a c) ps us
+    unfolding ReadAs TypedAs CountedAs WeightsTo stateCount
+    typed-set c p₀ e e₀ el =
+        let s = rw er at h in
+        let ix = s .1 in
+        let k = rw e at hq in (
+          s .0,
+          record {
+            typed = typed-is ix ∙ rw (k .0);
+            indexed = ix;
+            places-long = rw e₀ at el;
+            weights-long = k .1 .long;
+            weights-are = λ v l. k .1 .weights v l ∙ weight-is ix v (omega arith);
+            states-are = rw (count-is ix) (k .1 .states ∙ weight-is ix n (omega arith));
+          },
+        )
