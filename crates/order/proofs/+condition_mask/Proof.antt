@@ -59,23 +59,23 @@ condition-mask-sub-d t c = search (needs, condition-laws)
 condition-mask-kind-requires : (t : ℕ) → condition-mask-lts.Need-kind-requires (calls t) (condition-mask-at t) condition-mask.Post
 condition-mask-kind-requires t c κs = search (needs, condition-laws)
 
--- src/lib.rt:55:37
+-- src/lib.rt:56:27
 condition-mask-variable-requires : (t : ℕ) → condition-mask-lts.Need-variable-requires (calls t) (condition-mask-at t) condition-mask.Post
 condition-mask-variable-requires t c κs = search (needs, condition-laws)
 
--- src/lib.rt:55:37
+-- src/lib.rt:56:27
 condition-mask-cast-one-bit : (t : ℕ) → condition-mask-lts.Need-cast-one-bit (calls t) (condition-mask-at t) condition-mask.Post
 condition-mask-cast-one-bit t c = search (needs, condition-laws)
 
--- src/lib.rt:55:29
+-- src/lib.rt:56:19
 condition-mask-one-bit-requires : (t : ℕ) → condition-mask-lts.Need-one-bit-requires (calls t) (condition-mask-at t) condition-mask.Post
 condition-mask-one-bit-requires t c κs = search (needs, condition-laws)
 
--- src/lib.rt:57:14
+-- src/lib.rt:60:14
 condition-mask-condition-mask-requires : (t : ℕ) → condition-mask-lts.Need-condition-mask-requires (calls t) (condition-mask-at t) condition-mask.Post
 condition-mask-condition-mask-requires t c κs = search (needs, condition-laws)
 
--- src/lib.rt:59:17
+-- src/lib.rt:62:17
 condition-mask-condition-mask-requires-2 :
     (t : ℕ) → condition-mask-lts.Need-condition-mask-requires-2 (
       word-at-reads.Asked,
@@ -91,7 +91,7 @@ condition-mask-condition-mask-requires-2 :
     ) (condition-mask-at t) condition-mask.Post
 condition-mask-condition-mask-requires-2 t c κs = search (needs, condition-laws)
 
--- src/lib.rt:60:17
+-- src/lib.rt:63:17
 condition-mask-condition-mask-requires-3 :
     (t : ℕ) → condition-mask-lts.Need-condition-mask-requires-3 (
       word-at-reads.Asked,
