@@ -224,7 +224,7 @@ pub state-is : (ws ps us b : List ℕ) (n t : ℕ) → t ≡ numberAt ws ps us b
 state-is ws ps us b n t e = rw e
 
 -- what a walk that ended says
-said : (side s : ℕ) (e : Input) (r : Settled) (b : Values) (all : Walk) → joined r b ≡ all → walkSays side s e all ≡ settledSays side s e b r
+pub said : (side s : ℕ) (e : Input) (r : Settled) (b : Values) (all : Walk) → joined r b ≡ all → walkSays side s e all ≡ settledSays side s e b r
 unfolding joined walkSays settledSays
 said side s e S.Done b all p = rw (← p)
 said side s e (S.Gap v) b all p = rw (← p)

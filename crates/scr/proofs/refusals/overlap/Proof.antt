@@ -1,0 +1,15 @@
+use borrow.Author.Needs.{needs}
+use mathlib.Core.Path.{refl}
+use Rattle.scr.specs.Answers.{refusalSays}
+use Rattle.scr.proofs.refusals.overlap.Statement.{statement}
+use Rattle.scr.proofs.refusals.overlap.Tie as tie
+use Rattle.scr.proofs.refusals.overlap.Reads as reads
+use Rattle.scr.proofs.refusals.overlap.Lts as lts
+
+-- src/refusals.rt:50:1
+returns : tie.Need-returns
+unfolding refusalSays
+returns c = refl
+
+pub overlap-spec : {M : Type 1} → statement M
+overlap-spec = tie.close (tie.spec returns)

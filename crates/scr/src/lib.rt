@@ -1,0 +1,181 @@
+// The public face: the answers, and the entries with their promises. Every entry takes words, states, events and lists of every content
+// and length.
+mod calls; // what is done once the set has been read
+mod refusals; // making refusals
+
+use part::part_end;
+use part::part_start;
+use set::SetRead;
+use set::read_set;
+use state::initial_state;
+use word::Value;
+ghost use mathlib.Core.Path.{_≡_};
+ghost use Prim.Native.Nat.{ℕ};
+ghost use lib.ListN.{length};
+ghost use Rattle.meaning.specs.Calls.{startOf, valuesOf, lentValues, rowsOf};
+ghost use Rattle.meaning.specs.Steps.{stepOf};
+ghost use Rattle.scr.specs.Answers.{answerSays, countSays, countOf};
+ghost use Rattle.scr.specs.Promises.{StepsExactly};
+
+// ---- answers
+
+// An input event: a monitored variable and its new value.
+pub struct Input {
+    pub variable: u32,
+    pub value: u32,
+}
+
+// The cycle shown: a variable and the number of moves back to it.
+pub struct Cycle {
+    pub variable: usize,
+    pub length: usize,
+}
+
+// A condition table without a row that holds. Side 0 is the state given, 1 the one after a step, which carries the state before.
+pub struct Gap {
+    pub side: u32,
+    pub state: u32,
+    pub variable: usize,
+}
+
+// The lowest two rows of a condition table that hold together.
+pub struct Overlap {
+    pub side: u32,
+    pub state: u32,
+    pub variable: usize,
+    pub first: usize,
+    pub second: usize,
+}
+
+// The lowest two rows of a mode or event table that hold together in a step.
+pub struct StepOverlap {
+    pub state: u32,
+    pub input: Input,
+    pub variable: usize,
+    pub first: usize,
+    pub second: usize,
+}
+
+// An assertion and the step that breaks it.
+pub struct Broken {
+    pub assertion: usize,
+    pub state: u32,
+    pub input: Input,
+}
+
+// Document 01's refusals, each with what it carries. specs/Answers gives each its number.
+pub enum Refusal {
+    Length(usize),
+    Kind(usize),
+    Range(usize),
+    Limit(usize),
+    Fit(usize),
+    NoTable(usize),
+    InitialValue(usize),
+    States(usize),
+    Cycle(Cycle),
+    Gap(Gap),
+    Overlap(Overlap),
+    StepOverlap(StepOverlap),
+    FalseInitially(usize),
+    Broken(Broken),
+    NoState(u32),
+    NotEnabled(usize),
+    Room(usize),
+}
+
+// A state, or the refusal.
+pub enum Answer {
+    State(u32),
+    Refused(Refusal),
+}
+
+// The number of values written, or the refusal.
+pub enum Count {
+    Written(usize),
+    Refused(Refusal),
+}
+
+// ---- entries
+
+// The initial state, or the first of refusals 1 to 9.
+pub fn start(words: &[u32]) -> Answer
+    ensures { λ r. ⌜ answerSays r ≡ startOf (now (words .entry)) ⌝ }
+{
+    let mut places = [0usize; 32];
+    let mut weights = [0u32; 32];
+    let mut order = [0usize; 32];
+    let r = read_set(words, &mut places, &mut weights, &mut order);
+    match r {
+        SetRead::Refused(k, x) => Answer::Refused(refusals::reading(k, x)),
+        SetRead::Cycle(v, m) => Answer::Refused(refusals::cycle(v, m)),
+        SetRead::Set(n, _, _) => Answer::State(initial_state(words, &places, &weights, n)),
+    }
+}
+
+// The next state, or the refusal. It answers a state exactly if that is the one next state by the SCR rules, met without gap or overlap,
+// and the event word is enabled.
+pub fn step(words: &[u32], state: u32, event: u32) -> Answer
+    ensures { λ r. ⌜ answerSays r ≡ stepOf (now (words .entry)) state event ⌝ }
+    ensures { λ r. ⌜ StepsExactly (now (words .entry)) state event r ⌝ }
+{
+    let mut places = [0usize; 32];
+    let mut weights = [0u32; 32];
+    let mut order = [0usize; 32];
+    let r = read_set(words, &mut places, &mut weights, &mut order);
+    match r {
+        SetRead::Refused(k, x) => Answer::Refused(refusals::reading(k, x)),
+        SetRead::Cycle(v, m) => Answer::Refused(refusals::cycle(v, m)),
+        SetRead::Set(n, _, c) => calls::step(
+            words,
+            &places,
+            &weights,
+            &order[0..n],
+            n,
+            c,
+            state,
+            event,
+        ),
+    }
+}
+
+// The values of a state, one a variable at the front of a lent list; elements beyond keep their content.
+pub fn values(words: &[u32], state: u32, out: &mut [Value]) -> Count
+    ensures { λ r. ⌜ countSays r ≡ countOf (valuesOf (now (words .entry)) state (length (now (out .entry)))) ⌝ }
+    ensures { λ r. ⌜ now (out .exit) ≡ lentValues (valuesOf (now (words .entry)) state (length (now (out .entry)))) (now (out .entry)) ⌝ }
+{
+    let mut places = [0usize; 32];
+    let mut weights = [0u32; 32];
+    let mut order = [0usize; 32];
+    let r = read_set(words, &mut places, &mut weights, &mut order);
+    match r {
+        SetRead::Refused(k, x) => Count::Refused(refusals::reading(k, x)),
+        SetRead::Cycle(v, m) => Count::Refused(refusals::cycle(v, m)),
+        SetRead::Set(n, _, c) => calls::values(
+            words,
+            &places,
+            &weights,
+            &order[0..n],
+            n,
+            c,
+            state,
+            &mut out[..],
+        ),
+    }
+}
+
+// The rows of a variable's table, as a part of the caller's words from its table word on; the empty part if the set does not read or has
+// no such table.
+pub fn rows(words: &[u32], variable: u32) -> &[u32]
+    ensures { λ r. ⌜ now r ≡ rowsOf (now (words .entry)) variable ⌝ }
+{
+    if !calls::reads(words) {
+        return &words[0..0];
+    }
+    let a = part_start(words, variable);
+    if words.len() <= a {
+        return &words[0..0];
+    }
+    let b = part_end(words, a);
+    &words[a..b]
+}
