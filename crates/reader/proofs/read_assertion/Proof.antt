@@ -12,7 +12,7 @@ use Rattle.word.proofs.sort.Reads as sort-reads
 
 -- src/lib.rt:379:9
 returns : tie.Need-returns
-returns c = search (needs, assertion-laws)
+returns c = search assertion-laws
 
 -- src/lib.rt:381:9
 word-at-requires : tie.Need-word-at-requires
@@ -32,7 +32,7 @@ fault-requires c κs = search needs
 
 -- src/lib.rt:386:9
 returns-2 : tie.Need-returns-2
-returns-2 c = search (needs, assertion-laws)
+returns-2 c = search assertion-laws
 
 -- src/lib.rt:388:30
 add-read-condition : tie.Need-add-read-condition
@@ -44,7 +44,7 @@ read-condition-requires c κs = search needs
 
 -- src/lib.rt:375:1
 returns-3 : tie.Need-returns-3
-returns-3 c = search (needs, assertion-laws)
+returns-3 c = search assertion-laws
 
 pub read-assertion-spec : {M : Type 1} → statement M
 read-assertion-spec =

@@ -12,7 +12,7 @@ use Rattle.reader.proofs.row_ok.Reads as row-ok-reads
 
 -- src/lib.rt:252:9
 returns : tie.Need-returns
-returns c = search (needs, row-laws)
+returns c = search row-laws
 
 -- src/lib.rt:254:9
 word-at-requires : tie.Need-word-at-requires
@@ -32,7 +32,7 @@ fault-requires c κs = search needs
 
 -- src/lib.rt:259:9
 returns-2 : tie.Need-returns-2
-returns-2 c = search (needs, row-laws)
+returns-2 c = search row-laws
 
 -- src/lib.rt:261:31
 add-read-formula : tie.Need-add-read-formula
@@ -44,7 +44,7 @@ read-formula-requires c κs = search needs
 
 -- src/lib.rt:248:1
 returns-3 : tie.Need-returns-3
-returns-3 c = search (needs, row-laws)
+returns-3 c = search row-laws
 
 pub read-row-spec : {M : Type 1} → statement M
 read-row-spec =

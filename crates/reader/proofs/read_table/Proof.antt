@@ -17,7 +17,7 @@ use Rattle.word.proofs.sort.Reads as sort-reads
 
 -- src/lib.rt:320:9
 returns : tie.Need-returns
-returns c = search (needs, table-laws)
+returns c = search table-laws
 
 -- src/lib.rt:322:9
 word-at-requires : tie.Need-word-at-requires
@@ -53,7 +53,7 @@ fault-requires c κs = search needs
 
 -- src/lib.rt:330:9
 returns-2 : tie.Need-returns-2
-returns-2 c = search (needs, table-laws)
+returns-2 c = search table-laws
 
 -- src/lib.rt:332:9
 sort-requires : tie.Need-sort-requires
@@ -77,7 +77,7 @@ read-rows-requires c κs = search needs
 
 -- src/lib.rt:316:1
 returns-3 : tie.Need-returns-3
-returns-3 c = search (needs, table-laws)
+returns-3 c = search table-laws
 
 pub read-table-spec : {M : Type 1} → statement M
 read-table-spec =
