@@ -1,8 +1,8 @@
 -- Laws of read_formula, read_row and read_rows, one for each way out.
 use mathlib.Core.Path.{_≡_, refl, sym, ap, _∙_}
-use mathlib.Core.Bool.{Bool, true, false, not}
+use mathlib.Core.Bool.{Bool, true, false}
 use mathlib.Core.List.{List, [], _∷_}
-use Prim.Native.Nat.{ℕ, zero, suc, _+_, _-_, _≤_, _<_}
+use Prim.Native.Nat.{ℕ, suc, _+_, _-_, _≤_, _<_}
 use native.Mathlib.Omega.{arith}
 use native.Mathlib.Numerals.{add-one}
 use lib.Dec.{eqb, ltb}
@@ -10,10 +10,10 @@ use lib.ListN.{length}
 use borrow.Author.Tests.{ne-eqb}
 use Rattle.word.specs.Fields as W
 use Rattle.word.specs.Limits as Max
-use Rattle.meaning.specs.Answers.{Parse, fine, stop, _>>>_, expect, if_then_else_}
+use Rattle.meaning.specs.Answers.{fine, _>>>_, if_then_else_}
 use Rattle.meaning.specs.Searches.{mem}
 use Rattle.meaning.specs.Syntax.{Condition, Event, Variable, Row}
-use Rattle.meaning.specs.Reading.{Read, word, fits, rowOk, rowOf, rowsBy, wordAt, readCondition, readEvent, readRow, readRows}
+use Rattle.meaning.specs.Reading.{Read, word, fits, rowOk, rowOf, rowsBy, readCondition, readEvent, readRow, readRows}
 use Rattle.index.specs.declared.Reached.{Reached}
 use Rattle.index.specs.declared.Reached.the-variants.{Next, Refused}
 use Rattle.index.specs.Places.{reach, thenAt}
