@@ -1,8 +1,8 @@
 -- Laws of answers: one reading after another, with what was read forgotten.
-use mathlib.Core.Path.{_≡_, refl, sym, ap, _∙_}
+use mathlib.Core.Path.{_≡_, refl, sym, ap}
 use Prim.Native.Nat.{ℕ}
 use native.Mathlib.Omega.{arith}
-use Rattle.meaning.specs.Answers.{Parse, fine, stop, _>>>_}
+use Rattle.meaning.specs.Answers.{fine, stop, _>>>_}
 use Rattle.meaning.specs.Reading.{Read}
 use Rattle.index.specs.declared.Reached.{Reached}
 use Rattle.index.specs.declared.Reached.the-variants.{Next, Refused}

@@ -1,14 +1,13 @@
 -- Laws of fault: the tests of one word, in the meaning's order.
 use mathlib.Core.Path.{_≡_, refl, sym, _∙_}
-use mathlib.Core.Bool.{Bool, true, false, not, _&&_}
+use mathlib.Core.Bool.{Bool, true, false, not}
 use mathlib.Core.List.{List}
 use Prim.Native.Nat.{ℕ}
 use native.Mathlib.Omega.{arith}
 use borrow.Author.Tests.{not-true, not-false}
-use Rattle.meaning.specs.Answers.{Parse, fine, stop, _>>>_, expect}
+use Rattle.meaning.specs.Answers.{fine, _>>>_, expect}
 use Rattle.meaning.specs.Reading.{Read, word, fits, wordAt}
-use Rattle.index.specs.declared.Reached.{Reached}
-use Rattle.index.specs.declared.Reached.the-variants.{Next, Refused}
+use Rattle.index.specs.declared.Reached.the-variants.{Refused}
 use Rattle.index.specs.Places.{reach}
 use Rattle.reader.specs.Formulas.{faultOf}
 

@@ -4,11 +4,9 @@ use mathlib.Core.Bool.{Bool, true, false, not}
 use mathlib.Core.List.{List}
 use Prim.Native.Nat.{ℕ, zero, suc, _+_, _-_, _≤_}
 use native.Mathlib.Numerals.{sub-one, add-one}
-use lib.Dec.{eqb}
 use lib.ListN.{length}
 use borrow.Author.Tests.{ne-eqb, not-true, not-false}
 use Rattle.word.specs.Fields as W
-use Rattle.meaning.specs.Answers.{fine}
 use Rattle.meaning.specs.Searches.{mem, within}
 use Rattle.meaning.specs.Syntax.{Variable}
 use Rattle.meaning.specs.Reading.{word, fits, testOk, conditionKinds, eventKinds, conditionBy, eventBy, wordAt, readCondition, readEvent}

@@ -13,10 +13,9 @@ use borrow.Author.Tests.{ne-eqb, eq-eqb, not-true}
 use Rattle.word.specs.Fields as W
 use Rattle.word.specs.Limits as Max
 use Rattle.meaning.specs.Answers.{Parse, fine, stop, _>>>_, expect, if_then_else_}
-use Rattle.meaning.specs.Syntax.{Event, Variable, Table, Body, mode-table, event-table, condition-table}
+use Rattle.meaning.specs.Syntax.{Event, Variable, Table, Body}
 use Rattle.meaning.specs.Lookup.{definedBy, tableOf, isSome, hasTable}
 use Rattle.meaning.specs.Reading.{Read, word, fits, tableOk, tableFits, bodyOf, eventTableBy, wordAt, readBody, readTable, readTables}
-use Rattle.index.specs.declared.Reached.{Reached}
 use Rattle.index.specs.declared.Reached.the-variants.{Next, Refused}
 use Rattle.index.specs.Places.{told}
 use Rattle.index.specs.Indexed.{Placed, absent, there}

@@ -1,8 +1,8 @@
 -- Laws of read_formula, read_row and read_rows, one for each way out.
 use mathlib.Core.Path.{_≡_, refl, sym, ap, _∙_}
-use mathlib.Core.Bool.{Bool, true, false, not}
+use mathlib.Core.Bool.{Bool, true, false}
 use mathlib.Core.List.{List, [], _∷_}
-use Prim.Native.Nat.{ℕ, zero, suc, _+_, _-_, _≤_, _<_}
+use Prim.Native.Nat.{ℕ, suc, _+_, _-_, _≤_, _<_}
 use native.Mathlib.Omega.{arith}
 use native.Mathlib.Numerals.{add-one}
 use lib.Dec.{eqb, ltb}
@@ -10,14 +10,14 @@ use lib.ListN.{length}
 use borrow.Author.Tests.{ne-eqb}
 use Rattle.word.specs.Fields as W
 use Rattle.word.specs.Limits as Max
-use Rattle.meaning.specs.Answers.{Parse, fine, stop, _>>>_, expect, if_then_else_}
+use Rattle.meaning.specs.Answers.{fine, _>>>_, if_then_else_}
 use Rattle.meaning.specs.Searches.{mem}
-use Rattle.meaning.specs.Syntax.{Variable, Row}
-use Rattle.meaning.specs.Reading.{Read, word, fits, rowOk, rowOf, rowsBy, wordAt, readCondition, readEvent, readRow, readRows}
+use Rattle.meaning.specs.Syntax.{Condition, Event, Variable, Row}
+use Rattle.meaning.specs.Reading.{Read, word, fits, rowOk, rowOf, rowsBy, readCondition, readEvent, readRow, readRows}
 use Rattle.index.specs.declared.Reached.{Reached}
 use Rattle.index.specs.declared.Reached.the-variants.{Next, Refused}
 use Rattle.index.specs.Places.{reach, thenAt}
-use Rattle.reader.specs.Formulas.{faultOf, formulaReach, rowReach, rowsReach}
+use Rattle.reader.specs.Formulas.{faultOf, byType, formulaReach, rowReach, rowsReach}
 use Rattle.reader.proofs.Tests.{kind-past}
 use Rattle.reader.proofs.Answers.{then-reach, made-reach, then-next, then-stop}
 use Rattle.reader.proofs.Faults.{tested, tested-refused, tested-passed, word-then}
@@ -68,38 +68,36 @@ module _ (ws : List ℕ) (vs : List Variable) {F : Type 0} (formula : ℕ → Re
   unfolding readRows
   rows-ended on = sym (made-reach (readRow ws vs formula v m 0 on) _)
 
+-- ---- the same in a table of type t
+module _ (ws : List ℕ) (vs : List Variable) (t : ℕ) where
+  by-type : (f g : (F : Type 0) → (ℕ → Read F) → Reached) → ((F : Type 0) (formula : ℕ → Read F) → f F formula ≡ g F formula)
+      → byType ws vs t f ≡ byType ws vs t g
+  by-type f g same = go (eqb t 3)
+    where
+      go : (b : Bool)
+          → (if b then (λ _. f Condition (readCondition ws vs Max.max-depth)) else (λ _. f Event (readEvent ws vs Max.max-depth)))
+          ≡ (if b then (λ _. g Condition (readCondition ws vs Max.max-depth)) else (λ _. g Event (readEvent ws vs Max.max-depth)))
+      go true = same Condition (readCondition ws vs Max.max-depth)
+      go false = same Event (readEvent ws vs Max.max-depth)
+
 -- ---- a row of a table of type t
 module _ (ws : List ℕ) (vs : List Variable) (t v m l at : ℕ) where
-  row-refused : (k : ℕ) → k ≡ faultOf (fits (3 ∷ []) (word ws at)) (ltb 0 l) (rowOk vs v m (word ws at)) true → (k ≡ 0 → ⊥)
-      → Refused k at ≡ rowReach ws vs t v m l at
-  unfolding rowReach
-  row-refused k ek nz = go (eqb t 3)
-    where
-      one : {F : Type 0} (formula : ℕ → Read F) → Refused k at ≡ reach (readRow ws vs formula v m l at)
-      one formula = tested-refused _ _ _ _ k at _ ek nz ∙ sym (row-tested ws vs formula v m l at)
+  module _ (k : ℕ) (ek : k ≡ faultOf (fits (3 ∷ []) (word ws at)) (ltb 0 l) (rowOk vs v m (word ws at)) true) where
+    row-refused : (k ≡ 0 → ⊥) → Refused k at ≡ rowReach ws vs t v m l at
+    unfolding rowReach
+    row-refused nz =
+        always (eqb t 3) ∙ by-type ws vs t (λ F formula. Refused k at) (λ F formula. reach (readRow ws vs formula v m l at))
+        (λ F formula. tested-refused _ _ _ _ k at _ ek nz ∙ sym (row-tested ws vs formula v m l at))
+      where
+        always : (b : Bool) → Refused k at ≡ (if b then (λ _. Refused k at) else (λ _. Refused k at))
+        always true = refl
+        always false = refl
 
-      go : (b : Bool) → Refused k at ≡ (if b
-          then (λ _. reach (readRow ws vs (readCondition ws vs Max.max-depth) v m l at))
-          else (λ _. reach (readRow ws vs (readEvent ws vs Max.max-depth) v m l at)))
-      go true = one (readCondition ws vs Max.max-depth)
-      go false = one (readEvent ws vs Max.max-depth)
-
-  row-passed : (k : ℕ) → k ≡ faultOf (fits (3 ∷ []) (word ws at)) (ltb 0 l) (rowOk vs v m (word ws at)) true → k ≡ 0
-      → formulaReach ws vs t (suc at) ≡ rowReach ws vs t v m l at
-  unfolding rowReach formulaReach
-  row-passed k ek z = go (eqb t 3)
-    where
-      one : {F : Type 0} (formula : ℕ → Read F) → reach (formula (suc at)) ≡ reach (readRow ws vs formula v m l at)
-      one formula =
-          sym (made-reach (formula (suc at)) _) ∙ tested-passed _ _ _ _ k at _ ek z ∙ sym (row-tested ws vs formula v m l at)
-
-      go : (b : Bool)
-          → (if b then (λ _. reach (readCondition ws vs Max.max-depth (suc at))) else (λ _. reach (readEvent ws vs Max.max-depth (suc at))))
-          ≡ (if b
-          then (λ _. reach (readRow ws vs (readCondition ws vs Max.max-depth) v m l at))
-          else (λ _. reach (readRow ws vs (readEvent ws vs Max.max-depth) v m l at)))
-      go true = one (readCondition ws vs Max.max-depth)
-      go false = one (readEvent ws vs Max.max-depth)
+    row-passed : k ≡ 0 → formulaReach ws vs t (suc at) ≡ rowReach ws vs t v m l at
+    unfolding rowReach formulaReach
+    row-passed z =
+        by-type ws vs t (λ F formula. reach (formula (suc at))) (λ F formula. reach (readRow ws vs formula v m l at))
+        (λ F formula. sym (made-reach (formula (suc at)) _) ∙ tested-passed _ _ _ _ k at _ ek z ∙ sym (row-tested ws vs formula v m l at))
 
   pub row-past : length ws ≤ at → Refused 2 at ≡ rowReach ws vs t v m l at
   unfolding fits mem faultOf
@@ -137,17 +135,9 @@ module _ (ws : List ℕ) (vs : List Variable) (t v m : ℕ) where
 
   rows-last : (on : ℕ) → rowReach ws vs t v m 0 on ≡ rowsReach ws vs t v m 0 on
   unfolding rowsReach rowReach
-  rows-last on = go (eqb t 3)
-    where
-      go : (b : Bool)
-          → (if b
-          then (λ _. reach (readRow ws vs (readCondition ws vs Max.max-depth) v m 0 on))
-          else (λ _. reach (readRow ws vs (readEvent ws vs Max.max-depth) v m 0 on)))
-          ≡ (if b
-          then (λ _. reach (readRows ws vs (readCondition ws vs Max.max-depth) v m 0 on))
-          else (λ _. reach (readRows ws vs (readEvent ws vs Max.max-depth) v m 0 on)))
-      go true = rows-ended ws vs (readCondition ws vs Max.max-depth) v m on
-      go false = rows-ended ws vs (readEvent ws vs Max.max-depth) v m on
+  rows-last on =
+      by-type ws vs t (λ F formula. reach (readRow ws vs formula v m 0 on)) (λ F formula. reach (readRows ws vs formula v m 0 on))
+      (λ F formula. rows-ended ws vs formula v m on)
 
   pub rows-over : (i on at : ℕ) (r : Reached) → Max.max-rows ≤ i
       → rowsReach ws vs t v m (Max.max-rows - i) on ≡ rowsReach ws vs t v m Max.max-rows at

@@ -1,20 +1,20 @@
 -- What the index says of refusals 6 to 8 of the set that was read, and the laws of read_typed.
-use mathlib.Core.Path.{_≡_, refl, sym, ap, _∙_, subst}
-use mathlib.Core.Bool.{Bool, true, false, not, _||_}
+use mathlib.Core.Path.{_≡_, refl, sym, ap, _∙_}
+use mathlib.Core.Bool.{_||_}
 use mathlib.Core.List.{List, [], _∷_}
-use Prim.Native.Nat.{ℕ, zero, suc, _+_, _-_, _*_, _≤_, _<_}
+use Prim.Native.Nat.{ℕ, zero, suc, _≤_, _<_}
 use native.Mathlib.Omega.{arith}
 use native.Mathlib.Numerals.{sub-one}
-use lib.Dec.{eqb, leb}
-use lib.ListN.{length, getD}
+use lib.Dec.{eqb}
+use lib.ListN.{length}
 use borrow.Author.Tests.{ne-eqb, eq-eqb}
 use Rattle.word.specs.Fields as W
 use Rattle.word.specs.Limits as Max
 use Rattle.meaning.specs.Answers.{Outcome, ok, refuse, _>>=_, demand, if_then_else_}
 use Rattle.meaning.specs.Searches.{every, product-below}
-use Rattle.meaning.specs.Syntax.{Variable, Table, TableSet}
-use Rattle.meaning.specs.Lookup.{variableAt, hasTable, Source, input, by-event, by-condition, count, sizeOf, isMonitored, source}
-use Rattle.meaning.specs.Reading.{word, variableOf, readWords}
+use Rattle.meaning.specs.Syntax.{Variable, TableSet}
+use Rattle.meaning.specs.Lookup.{variableAt, Source, input, by-event, by-condition, count, sizeOf, isMonitored, source}
+use Rattle.meaning.specs.Reading.{word, variableOf}
 use Rattle.meaning.specs.States.{isHeld, radixBy, radix, weight, stateCount, initialOf, tabled, startsAtZero, fewStates, readTyped}
 use Rattle.index.specs.Places.{variablesTo}
 use Rattle.index.specs.Indexed.{Indexed}
@@ -25,8 +25,7 @@ use Rattle.reader.specs.declared.Words.the-variants as D
 use Rattle.reader.specs.declared.Counted.{Counted}
 use Rattle.reader.specs.declared.Counted.the-variants as C
 use Rattle.reader.specs.declared.Typed.the-variants as T
-use Rattle.reader.specs.Tables.{isPlaced}
-use Rattle.reader.specs.Counts.{heldBy, heldAt, radixAt, weightAt, tabledAt, startsAtZeroAt, fewStatesAt, typedAt, WeightsTo, Weighed, CountedAs}
+use Rattle.reader.specs.Counts.{heldBy, heldAt, radixAt, weightAt, tabledAt, startsAtZeroAt, fewStatesAt, typedAt, WeightsTo, CountedAs}
 use Rattle.reader.specs.Typed.{noPlaces, noWeights, ReadAs, TypedSet, TypedAs}
 use Rattle.reader.proofs.Places.{places-have}
 

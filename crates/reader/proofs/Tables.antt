@@ -10,7 +10,7 @@ use lib.ListN.{length, getD, set}
 use borrow.Author.Tests.{ne-eqb, eq-eqb, ltb-true}
 use Rattle.word.specs.Fields as W
 use Rattle.word.specs.Limits as Max
-use Rattle.meaning.specs.Answers.{Parse, fine, stop, _>>>_, expect, if_then_else_}
+use Rattle.meaning.specs.Answers.{Parse, fine, stop, _>>>_, if_then_else_}
 use Rattle.meaning.specs.Searches.{mem, within}
 use Rattle.meaning.specs.Syntax.{Condition, Event, Variable, Row, Table, condition-table}
 use Rattle.meaning.specs.Reading.{Read, word, fits, tableOk, tableFits, bodyOf, eventTableBy, wordAt, readCondition, readEvent, readRows, readBody, readTable}

@@ -1,7 +1,7 @@
 -- Laws of read_variables, one for each way out. What is left to read from here is the whole reading.
-use mathlib.Core.Path.{_≡_, refl, sym, ap, _∙_}
+use mathlib.Core.Path.{_≡_, sym, ap, _∙_}
 use mathlib.Core.Bool.{Bool, true, false, not}
-use mathlib.Core.List.{List, [], _∷_, _++_}
+use mathlib.Core.List.{List, []}
 use Prim.Native.Nat.{ℕ, zero, suc, _+_, _-_, _≤_, _<_}
 use native.Mathlib.Omega.{arith}
 use native.Mathlib.Numerals.{add-one}
@@ -9,9 +9,9 @@ use lib.Dec.{eqb}
 use borrow.Author.Tests.{ne-eqb, eq-eqb, not-true, not-false}
 use Rattle.word.specs.Fields as W
 use Rattle.word.specs.Limits as Max
-use Rattle.meaning.specs.Answers.{Parse, fine, stop, _>>>_, expect, if_then_else_}
+use Rattle.meaning.specs.Answers.{fine, stop, _>>>_, expect, if_then_else_}
 use Rattle.meaning.specs.Syntax.{Variable}
-use Rattle.meaning.specs.Reading.{Read, word, variableOk, variableOf, readVariables}
+use Rattle.meaning.specs.Reading.{Read, word, variableOk, readVariables}
 use Rattle.index.specs.declared.Reached.{Reached}
 use Rattle.index.specs.declared.Reached.the-variants.{Next, Refused}
 use Rattle.index.specs.Places.{reach, variablesTo}

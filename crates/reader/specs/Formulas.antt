@@ -6,8 +6,8 @@ use mathlib.Core.List.{List}
 use lib.Dec.{eqb}
 use Rattle.word.specs.Limits as Max
 use Rattle.meaning.specs.Answers.{if_then_else_}
-use Rattle.meaning.specs.Syntax.{Variable}
-use Rattle.meaning.specs.Reading.{readCondition, readEvent, readRow, readRows}
+use Rattle.meaning.specs.Syntax.{Condition, Event, Variable}
+use Rattle.meaning.specs.Reading.{Read, readCondition, readEvent, readRow, readRows}
 use Rattle.index.specs.declared.Reached.{Reached}
 use Rattle.index.specs.Places.{reach, thenAt}
 
@@ -24,22 +24,20 @@ module _ (ws : List ℕ) (vs : List Variable) where
   unfoldable pub changeReach : ℕ → ℕ → Reached
   changeReach left i = thenAt (reach (readCondition ws vs left i)) (λ j. reach (readCondition ws vs left j))
 
+  -- what a reading says that takes the reader of formulas as an argument, in a table of type t
+  abbrev pub byType : ℕ → ((F : Type 0) → (ℕ → Read F) → Reached) → Reached
+  byType t reading =
+      if eqb t 3
+      then (λ _. reading Condition (readCondition ws vs Max.max-depth))
+      else (λ _. reading Event (readEvent ws vs Max.max-depth))
+
   -- the formula of a row
   unfoldable pub formulaReach : ℕ → ℕ → Reached
-  formulaReach t i =
-      if eqb t 3
-      then (λ _. reach (readCondition ws vs Max.max-depth i))
-      else (λ _. reach (readEvent ws vs Max.max-depth i))
+  formulaReach t i = byType t (λ F formula. reach (formula i))
 
   -- a row and rows, of the table for v that reads class m, `left` of them still allowed
   unfoldable pub rowReach : (t v m left i : ℕ) → Reached
-  rowReach t v m left i =
-      if eqb t 3
-      then (λ _. reach (readRow ws vs (readCondition ws vs Max.max-depth) v m left i))
-      else (λ _. reach (readRow ws vs (readEvent ws vs Max.max-depth) v m left i))
+  rowReach t v m left i = byType t (λ F formula. reach (readRow ws vs formula v m left i))
 
   unfoldable pub rowsReach : (t v m left i : ℕ) → Reached
-  rowsReach t v m left i =
-      if eqb t 3
-      then (λ _. reach (readRows ws vs (readCondition ws vs Max.max-depth) v m left i))
-      else (λ _. reach (readRows ws vs (readEvent ws vs Max.max-depth) v m left i))
+  rowsReach t v m left i = byType t (λ F formula. reach (readRows ws vs formula v m left i))

@@ -3,7 +3,7 @@ use Prim.Native.Nat.{ℕ, _<_}
 use mathlib.Core.Path.{_≡_}
 use mathlib.Core.List.{List, [], _∷_}
 use lib.ListN.{length, getD, replicate}
-use Rattle.meaning.specs.Answers.{Outcome, ok, refuse}
+use Rattle.meaning.specs.Answers.{ok, refuse}
 use Rattle.meaning.specs.Syntax.{TableSet}
 use Rattle.meaning.specs.Reading.{readWords}
 use Rattle.meaning.specs.States.{weight, stateCount, readTyped}

@@ -15,69 +15,69 @@ use Rattle.word.proofs.class_read.Reads as class-read-reads
 use Rattle.word.proofs.defined.Reads as defined-reads
 use Rattle.word.proofs.sort.Reads as sort-reads
 
--- src/lib.rt:320:9
+-- src/lib.rt:332:9
 returns : tie.Need-returns
-returns c = search (needs, table-laws)
+returns c = search table-laws
 
--- src/lib.rt:322:9
+-- src/lib.rt:334:9
 word-at-requires : tie.Need-word-at-requires
 word-at-requires c κs = search needs
 
--- src/lib.rt:323:9
+-- src/lib.rt:335:9
 fits-kind-requires : tie.Need-fits-kind-requires
 fits-kind-requires c κs = search needs
 
--- src/lib.rt:324:9
+-- src/lib.rt:336:9
 table-ok-requires : tie.Need-table-ok-requires
 table-ok-requires c κs = search needs
 
--- src/lib.rt:325:9
+-- src/lib.rt:337:9
 table-fits-requires : tie.Need-table-fits-requires
 table-fits-requires c κs = search needs
 
--- src/lib.rt:326:13
+-- src/lib.rt:338:13
 defined-requires : tie.Need-defined-requires
 defined-requires c κs = search needs
 
--- src/lib.rt:326:13
+-- src/lib.rt:338:13
 cast-v : tie.Need-cast-v
 cast-v c = search needs
 
--- src/lib.rt:327:9
+-- src/lib.rt:339:9
 place-of-requires : tie.Need-place-of-requires
 place-of-requires c κs = search needs
 
--- src/lib.rt:328:9
+-- src/lib.rt:340:9
 fault-requires : tie.Need-fault-requires
 fault-requires c κs = search needs
 
--- src/lib.rt:330:9
+-- src/lib.rt:342:9
 returns-2 : tie.Need-returns-2
-returns-2 c = search (needs, table-laws)
+returns-2 c = search table-laws
 
--- src/lib.rt:332:9
+-- src/lib.rt:344:9
 sort-requires : tie.Need-sort-requires
 sort-requires c κs = search needs
 
--- src/lib.rt:333:13
+-- src/lib.rt:345:13
 class-read-requires : tie.Need-class-read-requires
 class-read-requires c κs = search needs
 
--- src/lib.rt:333:13
+-- src/lib.rt:345:13
 cast-m : tie.Need-cast-m
 cast-m c = search needs
 
--- src/lib.rt:334:34
+-- src/lib.rt:346:34
 add-read-rows : tie.Need-add-read-rows
 add-read-rows c = search needs
 
--- src/lib.rt:334:5
+-- src/lib.rt:346:5
 read-rows-requires : tie.Need-read-rows-requires
 read-rows-requires c κs = search needs
 
--- src/lib.rt:316:1
+-- src/lib.rt:328:1
 returns-3 : tie.Need-returns-3
-returns-3 c = search (needs, table-laws)
+returns-3 c = search table-laws
 
 pub read-table-spec : {M : Type 1} → statement M
 read-table-spec =

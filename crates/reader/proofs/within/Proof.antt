@@ -1,4 +1,3 @@
-use borrow.Author.Needs.{needs}
 use mathlib.Core.Path.{refl}
 use Rattle.meaning.specs.Searches.{within}
 use Rattle.reader.proofs.within.Statement.{statement}
@@ -6,7 +5,7 @@ use Rattle.reader.proofs.within.Tie as tie
 use Rattle.reader.proofs.within.Reads as reads
 use Rattle.reader.proofs.within.Lts as lts
 
--- src/lib.rt:38:1
+-- src/lib.rt:53:1
 returns : tie.Need-returns
 unfolding within
 returns c = refl
