@@ -68,10 +68,10 @@ module _ (from out all : List ℕ) (i : ℕ) (inv : sets out i (drop i from) ≡
 
 -- ---- values
 module _ (ws ps us os : List ℕ) (n s : ℕ) (own : List ℕ) (m : ℕ) (r : S.Settled) (em : m ≡ n)
-    (er : joined r own ≡ stateWalk ws ps us n s os (listOf (digitAt ws ps us n s) m)) where
+    (er : joined r own ≡ stateWalk ws ps us s os (listOf (digitAt ws ps us s) m)) where
   examined-says : examined ws ps us os n s ≡ settledSays 0 s (inputOf 0) own r
   unfolding examined
-  examined-says = said 0 s (inputOf 0) r own (stateWalk ws ps us n s os (listOf (digitAt ws ps us n s) n)) (rw em at er)
+  examined-says = said 0 s (inputOf 0) r own (stateWalk ws ps us s os (listOf (digitAt ws ps us s) n)) (rw em at er)
 
   module _ (out : List ℕ) (q : Refusal) where
     -- a refusal writes nothing

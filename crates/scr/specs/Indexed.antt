@@ -23,7 +23,7 @@ unfoldable pub stepIn : List ℕ → List ℕ → List ℕ → List ℕ → ℕ 
 stepIn ws ps us os n c s w = demand (ltb s c) 15 (s ∷ []) >>= λ _. stepIndex ws ps us os n 0 s w
 
 unfoldable pub examined : List ℕ → List ℕ → List ℕ → List ℕ → ℕ → ℕ → Outcome Values
-examined ws ps us os n s = walkSays 0 s (inputOf 0) (stateWalk ws ps us n s os (listOf (digitAt ws ps us n s) n))
+examined ws ps us os n s = walkSays 0 s (inputOf 0) (stateWalk ws ps us s os (listOf (digitAt ws ps us s) n))
 
 unfoldable pub valuesIn : List ℕ → List ℕ → List ℕ → List ℕ → ℕ → ℕ → ℕ → ℕ → Outcome Values
 valuesIn ws ps us os n c s room =

@@ -91,7 +91,7 @@ fn examine(
     ensures { λ r. ⌜ countSays r ≡ countOf (examined (now (words .entry)) (now (places .entry)) (now (weights .entry)) (now (order .entry)) n s) ⌝ }
     ensures { λ r. ⌜ now (out .exit) ≡ lentValues (examined (now (words .entry)) (now (places .entry)) (now (weights .entry)) (now (order .entry)) n s) (now (out .entry)) ⌝ }
 {
-    let r = values_in(words, places, weights, n, order, s, &mut own[..]);
+    let r = values_in(words, places, weights, order, s, &mut own[..]);
     match r {
         Settled::Gap(v) => Count::Refused(refusals::gap(0, s, v)),
         Settled::Overlap(v, i, j) => Count::Refused(refusals::overlap(0, s, v, i, j)),

@@ -156,13 +156,13 @@ module _ (os b : List ℕ) (i : ℕ) (all : Walk) (g : Given) (more : ℕ → Wa
   unfolding onward
   turn-on k e = rw e at turn
 
-module _ (ws ps us : List ℕ) (n s : ℕ) (os b : List ℕ) (i : ℕ) (all : Walk) (inv : stateWalk ws ps us n s (drop i os) b ≡ all) where
+module _ (ws ps us : List ℕ) (s : ℕ) (os b : List ℕ) (i : ℕ) (all : Walk) (inv : stateWalk ws ps us s (drop i os) b ≡ all) where
   pub state-done : length os ≤ i → joined S.Done b ≡ all
   unfolding joined stateWalk
   state-done h = walk-end _ os b i all inv h
 
-  module _ (x : ℕ) (g : Given) (h : i < length os) (ex : x ≡ digitAt ws ps us n s (getD os i 0)) (eg : g ≡ givenIn ws ps b x (getD os i 0)) where
-    state-turn : onward (getD os i 0) g (λ k. stateWalk ws ps us n s (drop (i + 1) os) (set b (getD os i 0) k)) ≡ all
+  module _ (x : ℕ) (g : Given) (h : i < length os) (ex : x ≡ digitAt ws ps us s (getD os i 0)) (eg : g ≡ givenIn ws ps b x (getD os i 0)) where
+    state-turn : onward (getD os i 0) g (λ k. stateWalk ws ps us s (drop (i + 1) os) (set b (getD os i 0) k)) ≡ all
     unfolding stateWalk
     state-turn = rw (eg, ex) (walk-turn _ os b i all inv h)
 
@@ -175,7 +175,7 @@ module _ (ws ps us : List ℕ) (n s : ℕ) (os b : List ℕ) (i : ℕ) (all : Wa
     pub state-step : (x′ y : ℕ) → g ≡ G.StepOverlap x′ y → joined (S.StepOverlap (getD os i 0) x′ y) b ≡ all
     state-step = turn-step os b i all g _ state-turn
 
-    pub state-on : (k : ℕ) (c : List ℕ) → g ≡ G.Is k → c ≡ set b (getD os i 0) k → stateWalk ws ps us n s (drop (i + 1) os) c ≡ all
+    pub state-on : (k : ℕ) (c : List ℕ) → g ≡ G.Is k → c ≡ set b (getD os i 0) k → stateWalk ws ps us s (drop (i + 1) os) c ≡ all
     state-on k c e ec = rw ec (turn-on os b i all g _ state-turn k e)
 
 module _ (ws ps a : List ℕ) (u k₀ : ℕ) (os b : List ℕ) (i : ℕ) (all : Walk) (inv : stepWalk ws ps a u k₀ (drop i os) b ≡ all) where
@@ -201,9 +201,9 @@ module _ (ws ps a : List ℕ) (u k₀ : ℕ) (os b : List ℕ) (i : ℕ) (all : 
     step-on k c e ec = rw ec (turn-on os b i all g _ step-turn k e)
 
 -- ---- values of a state, whole
-pub values-are : (ws ps us : List ℕ) (n s : ℕ) (os b c : List ℕ) (k : ℕ) (r : Settled) → b ≡ listOf (digitAt ws ps us n s) k
-    → joined r c ≡ stateWalk ws ps us n s os b → joined r c ≡ stateWalk ws ps us n s os (listOf (digitAt ws ps us n s) k)
-values-are ws ps us n s os b c k r eb e = e ∙ ap (stateWalk ws ps us n s os) eb
+pub values-are : (ws ps us : List ℕ) (s : ℕ) (os b c : List ℕ) (k : ℕ) (r : Settled) → b ≡ listOf (digitAt ws ps us s) k
+    → joined r c ≡ stateWalk ws ps us s os b → joined r c ≡ stateWalk ws ps us s os (listOf (digitAt ws ps us s) k)
+values-are ws ps us s os b c k r eb e = e ∙ ap (stateWalk ws ps us s os) eb
 
 pub values-long : (f : ℕ → ℕ) (b c : List ℕ) (k : ℕ) → b ≡ listOf f k → length c ≡ length b → length c ≡ k
 values-long f b c k eb e = e ∙ ap length eb ∙ length-listOf f k
@@ -265,12 +265,12 @@ module _ (ws ps us os : List ℕ) (n i s w : ℕ) (on : Bool) (eo : on ≡ enabl
   not-enabled f = rw (← eo, not-true on f)
 
   module _ (a : List ℕ) (m : ℕ) (r : Settled) (f : not on ≡ false) (em : m ≡ n)
-      (er : joined r a ≡ stateWalk ws ps us n s os (listOf (digitAt ws ps us n s) m)) where
+      (er : joined r a ≡ stateWalk ws ps us s os (listOf (digitAt ws ps us s) m)) where
     from-says : stepIndex ws ps us os n i s w ≡ (settledSays 0 s (inputOf w) a r >>= λ d. afterIndex ws ps us os n s w d)
     unfolding stepIndex
     from-says =
         rw (← eo, not-false on f)
-        (rw (said 0 s (inputOf w) r a (stateWalk ws ps us n s os (listOf (digitAt ws ps us n s) n)) (rw em at er)))
+        (rw (said 0 s (inputOf w) r a (stateWalk ws ps us s os (listOf (digitAt ws ps us s) n)) (rw em at er)))
 
     pub from-gap : (u : ℕ) → r ≡ S.Gap u → steppedSays s (inputOf w) (R.Gap 0 u) ≡ stepIndex ws ps us os n i s w
     unfolding steppedSays settledSays

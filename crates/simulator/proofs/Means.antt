@@ -109,7 +109,7 @@ small-same (refuse k xs) f h = refl
 module _ (ws : List ℕ) (z : TableSet) (n a : ℕ) (ps us : List ℕ) (ix : Indexed ws z n a ps) (wf : WellFormed z)
     (weights : (v : ℕ) → v < n → getD us v 0 ≡ weight z v) where
   pub values-means : (s : ℕ) (e : Input)
-      → walkSays 0 s e (stateWalk ws ps us n s (order z) (listOf (digitAt ws ps us n s) n)) ≡ valuesIn z s
+      → walkSays 0 s e (stateWalk ws ps us s (order z) (listOf (digitAt ws ps us s) n)) ≡ valuesIn z s
   unfolding stateWalk valuesIn givenIn
   values-means s e =
       walk-settles 0 s e _ (order z) _

@@ -28,5 +28,5 @@ afterIndex ws ps us os n s w a =
 unfoldable pub stepIndex : List ℕ → List ℕ → List ℕ → List ℕ → ℕ → ℕ → ℕ → ℕ → Outcome ℕ
 stepIndex ws ps us os n i s w =
     demand (enabledAt ws ps us n s w) 16 (i ∷ []) >>= λ _.
-    walkSays 0 s (inputOf w) (stateWalk ws ps us n s os (listOf (digitAt ws ps us n s) n)) >>= λ a.
+    walkSays 0 s (inputOf w) (stateWalk ws ps us s os (listOf (digitAt ws ps us s) n)) >>= λ a.
     afterIndex ws ps us os n s w a

@@ -79,8 +79,8 @@ unfoldable pub walk : (Values → ℕ → Given) → List ℕ → Values → Wal
 walk g [] b = done b
 walk g (v ∷ vs) b = onward v (g b v) (λ k. walk g vs (put b v k))
 
-unfoldable pub stateWalk : List ℕ → List ℕ → List ℕ → ℕ → ℕ → List ℕ → Values → Walk
-stateWalk ws ps us n s os b = walk (λ b v. givenIn ws ps b (digitAt ws ps us n s v) v) os b
+unfoldable pub stateWalk : List ℕ → List ℕ → List ℕ → ℕ → List ℕ → Values → Walk
+stateWalk ws ps us s os b = walk (λ b v. givenIn ws ps b (digitAt ws ps us s v) v) os b
 
 unfoldable pub stepWalk : List ℕ → List ℕ → Values → ℕ → ℕ → List ℕ → Values → Walk
 stepWalk ws ps a u k os b = walk (λ b v. givenAfter ws ps a b (getD (put a u k) v 0) v) os b
