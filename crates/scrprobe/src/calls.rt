@@ -1,4 +1,4 @@
-// Each call, and all of its effect put into the buffer.
+// Each call, its effect put into a buffer. Each function gives the place after what it put.
 use crate::fields;
 use crate::least;
 use crate::text::put_line;
@@ -43,7 +43,7 @@ pub fn values(set: &[u32], state: u32, room: usize, out: &mut [u8]) -> usize {
     values_into(set, state, &mut lent[0..m], out)
 }
 
-// The part is a slice of the set, so it starts at the set's table word of the variable.
+// The part says how long it is, and not where in the set it lies: it starts at the variable's table word.
 pub fn rows(set: &[u32], variable: u32, out: &mut [u8]) -> usize {
     let length = scr::rows(set, variable).len();
     if length == 0 {

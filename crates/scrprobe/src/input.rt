@@ -34,7 +34,7 @@ pub fn fill(bytes: &[u8], words: &mut [u32]) {
     }
 }
 
-// The n words from a place on; none where they would pass the end.
+// The n words from a place on; none if there are fewer.
 pub fn words_from(words: &[u32], at: usize, n: usize) -> &[u32] {
     if words.len() < at {
         return &words[0..0];

@@ -2,7 +2,7 @@
 //
 // The input is words of 32 bits, lowest byte first; what is missing counts as zeros:
 //
-//     call   1 start, 2 step, 4 values, 5 rows
+//     call   1 start, 2 step, 4 values, 5 rows; 3 and 6 are kept for run and check
 //     n      the number of words of the set, 5,000 counting for every greater one
 //     set    n words
 //     then   step: state, event; values: state, length of the lent list, at most 300; rows: variable
@@ -19,13 +19,13 @@ use libc::STDIN_FILENO;
 use libc::STDOUT_FILENO;
 ghost use Prim.Native.Nat.{_≤_};
 
-// A call, n, 5,000 words of a set, and a run's three arguments and 5,000 events: the longest input.
+// The longest input: the call, n, 5,000 words, and for a run three numbers and 5,000 events.
 const WORDS: usize = 10005;
 
 const BYTES: usize = 40020;
 
-// A run's list of 8,000 states of at most 10 digits, after a line of at most 70.
-const ROOM: usize = 88100;
+// The longest output: a line, and for a run 8,000 numbers of at most 10 digits, each with a blank or a line feed after it.
+const ROOM: usize = 88200;
 
 fn least(a: usize, b: usize) -> usize
     ensures { λ r. ⌜ (r ≤ a) × (r ≤ b) ⌝ }
@@ -42,10 +42,10 @@ fn probe(words: &[u32], out: &mut [u8]) -> usize {
     match word_at(words, 0) {
         1 => calls::start(set, out),
         2 => calls::step(set, first, second, out),
-        // 3, run: state, place, length of the lent list, events
+        // 3: run comes here. Its events are all words left, so it needs the number of words read too.
         4 => calls::values(set, first, second as usize, out),
         5 => calls::rows(set, first, out),
-        // 6, check
+        // 6: check comes here.
         _ => 0,
     }
 }

@@ -4,9 +4,6 @@ use Prim.Native.Nat.{_≤_, _-_}
 use lib.ListN.{length}
 use Rattle.scrprobe.proofs.text.put_bytes.Statement.{statement}
 use Rattle.scrprobe.proofs.text.put_bytes.Tie as tie
-use Rattle.scrprobe.proofs.text.put_bytes.Reads as reads
-use Rattle.scrprobe.proofs.text.put_bytes.Lts as lts
-use Rattle.scrprobe.proofs.text.put.Reads as put-reads
 
 abbrev Inv-loop : tie.InvT-loop
 Inv-loop out₀ at bytes on₀ i₀ i-end out on i = (i ≤ length bytes) × (length out ≡ length out₀)
@@ -14,35 +11,27 @@ Inv-loop out₀ at bytes on₀ i₀ i-end out on i = (i ≤ length bytes) × (le
 abbrev μ-loop : tie.MeasureT-loop
 μ-loop out₀ at bytes on₀ i₀ i-end out on i = length bytes - i
 
--- src/text.rt:16:5
 loop-holds : tie.Need-loop-holds Inv-loop μ-loop
 loop-holds c = search needs
 
--- src/text.rt:17:27
 shared-slice-read-put : tie.Need-shared-slice-read-put Inv-loop μ-loop
 shared-slice-read-put c = search needs
 
--- src/text.rt:17:9
 put-requires : tie.Need-put-requires Inv-loop μ-loop
 put-requires c κs = search needs
 
--- src/text.rt:16:9
 add-i : tie.Need-add-i Inv-loop μ-loop
 add-i c = search needs
 
--- src/text.rt:16:5
 loop-less : tie.Need-loop-less Inv-loop μ-loop
 loop-less c = search needs
 
--- src/text.rt:16:5
 loop-again : tie.Need-loop-again Inv-loop μ-loop
 loop-again c = search needs
 
--- src/text.rt:14:1
 same-length : tie.Need-same-length Inv-loop μ-loop
 same-length c = search needs
 
--- src/text.rt:14:1
 returns : tie.Need-returns Inv-loop μ-loop
 returns c = search needs
 
