@@ -1,0 +1,54 @@
+// Each call, its effect put into a buffer. Each function gives the place after what it put.
+use crate::fields;
+use crate::least;
+use crate::text::put_line;
+use crate::text::put_values;
+use part::part_start;
+use scr::Answer;
+use scr::Count;
+use word::Value;
+
+fn put_answer(answer: Answer, out: &mut [u8]) -> usize {
+    match answer {
+        Answer::State(s) => put_line(out, 0, b"STATE", fields::one(s as u64)),
+        Answer::Refused(r) => put_line(out, 0, b"REFUSE", fields::refusal(r)),
+    }
+}
+
+fn put_count(count: Count, out: &mut [u8]) -> usize {
+    match count {
+        Count::Written(n) => put_line(out, 0, b"VALUES", fields::one(n as u64)),
+        Count::Refused(r) => put_line(out, 0, b"REFUSE", fields::refusal(r)),
+    }
+}
+
+pub fn start(set: &[u32], out: &mut [u8]) -> usize {
+    put_answer(scr::start(set), out)
+}
+
+pub fn step(set: &[u32], state: u32, event: u32, out: &mut [u8]) -> usize {
+    put_answer(scr::step(set, state, event), out)
+}
+
+fn values_into(set: &[u32], state: u32, lent: &mut [Value], out: &mut [u8]) -> usize {
+    let count = scr::values(set, state, lent);
+    let on = put_count(count, out);
+    put_values(out, on, lent)
+}
+
+// The lent list has `room` elements, at most 300.
+pub fn values(set: &[u32], state: u32, room: usize, out: &mut [u8]) -> usize {
+    let mut lent = [238 as Value; 300];
+    let m = least(room, 300);
+    values_into(set, state, &mut lent[0..m], out)
+}
+
+// The part says how long it is, and not where in the set it lies: it starts at the variable's table word.
+pub fn rows(set: &[u32], variable: u32, out: &mut [u8]) -> usize {
+    let length = scr::rows(set, variable).len();
+    if length == 0 {
+        return put_line(out, 0, b"ROWS", fields::two(0, 0));
+    }
+    let first = part_start(set, variable);
+    put_line(out, 0, b"ROWS", fields::two(first as u64, length as u64))
+}

@@ -1,0 +1,61 @@
+// The probe: one entry called on arguments from standard input, and all of its effect printed, for tests and for the curious.
+//
+// The input is words of 32 bits, lowest byte first; what is missing counts as zeros:
+//
+//     call   1 start, 2 step, 4 values, 5 rows; 3 and 6 are kept for run and check
+//     n      the number of words of the set, 5,000 counting for every greater one
+//     set    n words
+//     then   step: state, event; values: state, length of the lent list, at most 300; rows: variable
+//
+// The output is a line STATE s, VALUES n, ROWS index length or REFUSE number carried.., and for values a line with the whole lent list,
+// whose elements are 238 before the call. Another call prints nothing.
+mod calls; // each call and its lines
+mod fields; // the numbers of a line
+mod input; // bytes to words
+mod text; // text into a buffer
+
+use index::word_at;
+use libc::STDIN_FILENO;
+use libc::STDOUT_FILENO;
+ghost use Prim.Native.Nat.{_≤_};
+
+// The longest input: the call, n, 5,000 words, and for a run three numbers and 5,000 events.
+const WORDS: usize = 10005;
+
+const BYTES: usize = 40020;
+
+// The longest output: a line, and for a run 8,000 numbers of at most 10 digits, each with a blank or a line feed after it.
+const ROOM: usize = 88200;
+
+fn least(a: usize, b: usize) -> usize
+    ensures { λ r. ⌜ (r ≤ a) × (r ≤ b) ⌝ }
+{
+    if a < b { a } else { b }
+}
+
+// One call, its effect put into a buffer; the place after it.
+fn probe(words: &[u32], out: &mut [u8]) -> usize {
+    let n = least(word_at(words, 1) as usize, 5000);
+    let set = input::words_from(words, 2, n);
+    let first = word_at(words, n + 2);
+    let second = word_at(words, n + 3);
+    match word_at(words, 0) {
+        1 => calls::start(set, out),
+        2 => calls::step(set, first, second, out),
+        // 3: run comes here. Its events are all words left, so it needs the number of words read too.
+        4 => calls::values(set, first, second as usize, out),
+        5 => calls::rows(set, first, out),
+        // 6: check comes here.
+        _ => 0,
+    }
+}
+
+fn main() {
+    let mut bytes = [0u8; BYTES];
+    let n = io::read_full(STDIN_FILENO, &mut bytes);
+    let mut words = [0u32; WORDS];
+    input::fill(&bytes[..n], &mut words);
+    let mut out = [0u8; ROOM];
+    let end = probe(&words, &mut out);
+    io::write_all(STDOUT_FILENO, text::front(&out, end));
+}

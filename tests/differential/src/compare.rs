@@ -1,0 +1,68 @@
+//! The comparison.
+
+use crate::counts::Counts;
+use crate::inputs::nth_input;
+use crate::program::printed;
+use oracle::probe;
+use std::fmt;
+use std::path::Path;
+
+/// What a series of inputs showed.
+#[derive(Clone, Debug, Default)]
+pub struct Comparison {
+    pub inputs: u64,
+    pub differences: u64,
+    pub first: Option<Difference>,
+    /// Of the oracle's answers.
+    pub counts: Counts,
+}
+
+/// An input on which the two outputs differ.
+#[derive(Clone, Debug)]
+pub struct Difference {
+    pub index: u64,
+    pub input: Vec<u8>,
+    pub oracle: String,
+    /// The output, or why there is none.
+    pub program: Result<Vec<u8>, String>,
+}
+
+/// Compares the program with the oracle on the first inputs of a seed.
+pub fn compare(program: &Path, seed: u64, count: u64) -> Comparison {
+    let mut comparison = Comparison::default();
+    for index in 0..count {
+        let input = nth_input(seed, index);
+        let expected = probe(&input);
+        let got = printed(program, &input);
+        comparison.inputs += 1;
+        comparison.counts.add(&input, &expected);
+        if got.as_deref() == Ok(expected.as_bytes()) {
+            continue;
+        }
+        comparison.differences += 1;
+        comparison.first.get_or_insert(Difference { index, input, oracle: expected, program: got });
+    }
+    comparison
+}
+
+impl fmt::Display for Comparison {
+    fn fmt(&self, f: &mut fmt::Formatter) -> fmt::Result {
+        if let Some(difference) = &self.first {
+            write!(f, "{difference}")?;
+        }
+        write!(f, "{}", self.counts)?;
+        writeln!(f, "{} inputs, {} differences", self.inputs, self.differences)
+    }
+}
+
+impl fmt::Display for Difference {
+    fn fmt(&self, f: &mut fmt::Formatter) -> fmt::Result {
+        let hex: String = self.input.iter().map(|byte| format!("{byte:02x}")).collect();
+        writeln!(f, "first difference, at input {}:\n{hex}", self.index)?;
+        writeln!(f, "oracle:\n{}", self.oracle)?;
+        match &self.program {
+            Ok(output) => writeln!(f, "program:\n{}", String::from_utf8_lossy(output)),
+            Err(reason) => writeln!(f, "program: {reason}"),
+        }
+    }
+}

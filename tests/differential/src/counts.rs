@@ -1,0 +1,129 @@
+//! How many inputs of each call there were and how many answers of each kind.
+
+use oracle::probe;
+use std::collections::BTreeMap;
+use std::fmt;
+
+#[derive(Clone, Debug, Default)]
+pub struct Counts {
+    /// By the number of the call, 0 standing for none.
+    pairs: BTreeMap<(u32, Answer), usize>,
+}
+
+/// What an output's first line says: its name, the number of a refusal, and what else tells kinds of answers apart.
+#[derive(Clone, Debug, PartialEq, Eq, PartialOrd, Ord)]
+pub struct Answer {
+    name: String,
+    number: u32,
+    detail: &'static str,
+}
+
+impl Counts {
+    pub fn add(&mut self, input: &[u8], output: &str) {
+        *self.pairs.entry((call_of(input), Answer::of(output))).or_default() += 1;
+    }
+
+    /// How many answers of a kind there were, the kind as it is printed.
+    pub fn of(&self, kind: &str) -> usize {
+        self.pairs.iter().filter(|((_, answer), _)| answer.to_string() == kind).map(|(_, count)| count).sum()
+    }
+
+    fn sums<Key: Ord>(&self, key: impl Fn(&(u32, Answer)) -> Key) -> BTreeMap<Key, usize> {
+        let mut sums = BTreeMap::new();
+        for (pair, count) in &self.pairs {
+            *sums.entry(key(pair)).or_default() += count;
+        }
+        sums
+    }
+}
+
+impl Answer {
+    fn of(output: &str) -> Answer {
+        let fields: Vec<&str> = output.lines().next().unwrap_or("").split(' ').collect();
+        let (number, detail) = match fields[..] {
+            ["REFUSE", number @ ("10" | "11"), "0", ..] => (number, "side 0"),
+            ["REFUSE", number @ ("10" | "11"), ..] => (number, "side 1"),
+            ["REFUSE", number, ..] => (number, ""),
+            ["ROWS", "0", "0"] => ("0", "empty"),
+            _ => ("0", ""),
+        };
+        Answer { name: fields[0].to_string(), number: number.parse().unwrap_or(0), detail }
+    }
+}
+
+impl fmt::Display for Answer {
+    fn fmt(&self, f: &mut fmt::Formatter) -> fmt::Result {
+        let mut fields = vec![self.name.clone()];
+        if self.name.is_empty() {
+            fields = vec!["nothing".to_string()];
+        }
+        if self.number != 0 {
+            fields.push(self.number.to_string());
+        }
+        if !self.detail.is_empty() {
+            fields.push(self.detail.to_string());
+        }
+        write!(f, "{}", fields.join(" "))
+    }
+}
+
+impl fmt::Display for Counts {
+    fn fmt(&self, f: &mut fmt::Formatter) -> fmt::Result {
+        for (answer, count) in self.sums(|(_, answer)| answer.clone()) {
+            writeln!(f, "{:16}{count:8}", answer.to_string())?;
+        }
+        for (call, count) in self.sums(|(call, _)| *call) {
+            let answers = self.pairs.iter().filter(|((of, _), _)| *of == call);
+            let answers: Vec<String> = answers.map(|((_, answer), count)| format!("{answer}: {count}")).collect();
+            writeln!(f, "{:16}{count:8} ({})", call_name(call), answers.join(", "))?;
+        }
+        Ok(())
+    }
+}
+
+fn call_of(input: &[u8]) -> u32 {
+    let mut word = [0; 4];
+    word.iter_mut().zip(input).for_each(|(byte, &read)| *byte = read);
+    let number = u32::from_le_bytes(word);
+    if (probe::START..=probe::CHECK).contains(&number) {
+        return number;
+    }
+    0
+}
+
+fn call_name(call: u32) -> &'static str {
+    match call {
+        probe::START => "start",
+        probe::STEP => "step",
+        probe::RUN => "run",
+        probe::VALUES => "values",
+        probe::ROWS => "rows",
+        probe::CHECK => "check",
+        _ => "no call",
+    }
+}
+
+#[cfg(test)]
+mod tests {
+    use super::*;
+
+    #[test]
+    fn kinds_of_answers() {
+        let kind = |output| Answer::of(output).to_string();
+        assert_eq!(kind(""), "nothing");
+        assert_eq!(kind("STATE 10\n"), "STATE");
+        assert_eq!(kind("VALUES 2\n0 1\n"), "VALUES");
+        assert_eq!(kind("ROWS 17 7\n"), "ROWS");
+        assert_eq!(kind("ROWS 0 0\n"), "ROWS empty");
+        assert_eq!(kind("REFUSE 9 3 1\n"), "REFUSE 9");
+        assert_eq!(kind("REFUSE 10 1 5 3\n"), "REFUSE 10 side 1");
+        assert_eq!(kind("REFUSE 11 0 4 3 0 3\n238\n"), "REFUSE 11 side 0");
+    }
+
+    #[test]
+    fn calls_of_inputs() {
+        assert_eq!(call_of(&[2, 0, 0, 0, 9]), probe::STEP);
+        assert_eq!(call_of(&[2]), probe::STEP);
+        assert_eq!([call_of(&[]), call_of(&[7]), call_of(&[1, 1])], [0; 3]);
+    }
+}
