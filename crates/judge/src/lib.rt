@@ -2,6 +2,8 @@
 // A formula is judged from its first word on; where it ends is found on the way, so no tree is built and no place is kept.
 use index::value_of;
 use index::word_at;
+use word::MAX_DEPTH;
+use word::MAX_ROWS;
 use word::Value;
 use word::given;
 use word::kind;
@@ -14,14 +16,10 @@ ghost use mathlib.Core.Path.{_≡_};
 ghost use mathlib.Core.Bool.{_&&_};
 ghost use lib.Dec.{eqb};
 ghost use Rattle.word.specs.Fields as W;
+ghost use Rattle.word.specs.Limits as Max;
 ghost use Rattle.meaning.specs.Reading.{word, testOf};
 ghost use Rattle.meaning.specs.Steps.{true-in, modeIs};
 ghost use Rattle.judge.specs.Judge.{joinedBy, judgeAt, changedBy, changeAt, judgeEventAt, addRow, conditionRowsAt, eventRowsAt};
-
-// The most that reading lets through: rows of a table, and levels of a formula.
-const MAX_ROWS: usize = 64;
-
-const MAX_DEPTH: usize = 16;
 
 // A formula's truth, and the place after it.
 pub struct Judged {
@@ -214,7 +212,7 @@ fn is_row(words: &[u32], at: usize) -> bool
 
 // The rows of a condition table that hold at the values. The first row stands at `at`, `mode` is the value of the class read.
 pub fn condition_rows(words: &[u32], values: &[Value], mode: u32, at: usize) -> Got
-    ensures { λ r. ⌜ r ≡ conditionRowsAt (now (words .entry)) (now (values .entry)) mode 64 0 at Got.Nothing ⌝ }
+    ensures { λ r. ⌜ r ≡ conditionRowsAt (now (words .entry)) (now (values .entry)) mode Max.max-rows 0 at Got.Nothing ⌝ }
 {
     let mut got = Got::Nothing;
     let mut on = at;
@@ -235,7 +233,7 @@ pub fn condition_rows(words: &[u32], values: &[Value], mode: u32, at: usize) -> 
 
 // The rows of a mode or event table that hold in the step; `mode` is the value before it of the class read.
 pub fn event_rows(words: &[u32], before: &[Value], after: &[Value], mode: u32, at: usize) -> Got
-    ensures { λ r. ⌜ r ≡ eventRowsAt (now (words .entry)) (now (before .entry)) (now (after .entry)) mode 64 0 at Got.Nothing ⌝ }
+    ensures { λ r. ⌜ r ≡ eventRowsAt (now (words .entry)) (now (before .entry)) (now (after .entry)) mode Max.max-rows 0 at Got.Nothing ⌝ }
 {
     let mut got = Got::Nothing;
     let mut on = at;

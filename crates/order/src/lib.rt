@@ -2,6 +2,8 @@
 // are stuck (document 01, "States and steps", and refusal 9). All of it from the words of a set that has been read and its places.
 use index::place_of;
 use index::word_at;
+use word::MAX_DEPTH;
+use word::MAX_ROWS;
 use word::class_read;
 use word::kind;
 use word::sort;
@@ -108,9 +110,9 @@ fn formula_mask(words: &[u32], t: u32, at: usize) -> Masked
     ensures { λ r. ⌜ r ≡ formulaMask (now (words .entry)) t at ⌝ }
 {
     if t == 3 {
-        condition_mask(words, at, 16)
+        condition_mask(words, at, MAX_DEPTH)
     } else {
-        event_mask(words, at, 16)
+        event_mask(words, at, MAX_DEPTH)
     }
 }
 
@@ -120,7 +122,7 @@ fn rows_mask(words: &[u32], t: u32, at: usize, first: u32) -> u32
 {
     let mut mask = first;
     let mut on = at;
-    for i in 0..64usize {
+    for i in 0..MAX_ROWS {
         if words.len() <= on {
             return mask;
         }

@@ -6,8 +6,8 @@ use Prim.Native.Nat.{ℕ, zero, suc, _+_, _-_, _≤_, _<_}
 use native.Mathlib.Omega.{arith}
 use native.Mathlib.Numerals.{add-one}
 use lib.Dec.{leb, ltb}
-use lib.ListN.{length, getD, set, drop, drop-of-length-le}
-use lib.Seq.{sets, drop-cons}
+use lib.ListN.{length}
+use lib.Seq.{sets}
 use borrow.Author.Tests.{le-ltb, lt-ltb, lt-leb, le-leb}
 use Rattle.meaning.specs.Answers.{Outcome, ok, refuse, _>>=_, demand}
 use Rattle.meaning.specs.Searches.{listOf}
@@ -57,14 +57,6 @@ module _ (ws ps us os : List ℕ) (n c s w : ℕ) where
       → answerSays a ≡ steppedSays s (inputOf w) r → answerSays a ≡ stepIn ws ps us os n c s w
   unfolding stepIn
   step-done r a h e ea = rw (lt-ltb s c h) (ea ∙ e)
-
--- ---- writing to the front of a lent list: what is left from here is the whole
-module _ (from out all : List ℕ) (i : ℕ) (inv : sets out i (drop i from) ≡ all) where
-  pub front-on : i < length from → sets (set out i (getD from i 0)) (i + 1) (drop (i + 1) from) ≡ all
-  front-on h = rw (add-one i) (rw (drop-cons from i 0 h) at inv)
-
-  pub front-all : length from ≤ i → out ≡ all
-  front-all h = rw (drop-of-length-le from h) at inv
 
 -- ---- values
 module _ (ws ps us os : List ℕ) (n s : ℕ) (own : List ℕ) (m : ℕ) (r : S.Settled) (em : m ≡ n)

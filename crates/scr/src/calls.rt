@@ -8,12 +8,12 @@ use set::read_set;
 use simulator::Settled;
 use simulator::step_from;
 use simulator::values_in;
+use simulator::write_front;
 use word::Value;
 ghost use mathlib.Core.Path.{_≡_};
 ghost use mathlib.Core.Bool.{Bool};
 ghost use Prim.Native.Nat.{ℕ, _≤_};
 ghost use lib.ListN.{length};
-ghost use lib.Seq.{sets};
 ghost use Rattle.meaning.specs.Calls.{lentValues};
 ghost use Rattle.scr.specs.Answers.{answerSays, countSays, countOf};
 ghost use Rattle.scr.specs.Indexed.{stepIn, examined, valuesIn, readsWell};
@@ -64,16 +64,6 @@ pub fn step(
         &mut after[0..n],
     );
     refusals::stepped(s, w, r)
-}
-
-// The values at the front of a lent list.
-fn write_front(from: &[Value], out: &mut [Value])
-    requires { ⌜ length (now from) ≤ length (now out) ⌝ }
-    ensures { λ _. ⌜ now (out .exit) ≡ sets (now (out .entry)) 0 (now (from .entry)) ⌝ }
-{
-    for i in 0..from.len() {
-        out[i] = from[i];
-    }
 }
 
 // The state is examined in a list of its own, so that a refusal writes nothing to the lent one.

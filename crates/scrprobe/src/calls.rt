@@ -3,7 +3,7 @@ use crate::fields;
 use crate::least;
 use crate::text::put_line;
 use crate::text::put_values;
-use part::part_start;
+use crate::text::put_words;
 use scr::Answer;
 use scr::Count;
 use word::Value;
@@ -43,12 +43,9 @@ pub fn values(set: &[u32], state: u32, room: usize, out: &mut [u8]) -> usize {
     values_into(set, state, &mut lent[0..m], out)
 }
 
-// The part says how long it is, and not where in the set it lies: it starts at the variable's table word.
+// The part itself is printed, word by word, as it was handed back.
 pub fn rows(set: &[u32], variable: u32, out: &mut [u8]) -> usize {
-    let length = scr::rows(set, variable).len();
-    if length == 0 {
-        return put_line(out, 0, b"ROWS", fields::two(0, 0));
-    }
-    let first = part_start(set, variable);
-    put_line(out, 0, b"ROWS", fields::two(first as u64, length as u64))
+    let part = scr::rows(set, variable);
+    let on = put_line(out, 0, b"ROWS", fields::one(part.len() as u64));
+    put_words(out, on, part)
 }

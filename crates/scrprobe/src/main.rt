@@ -7,8 +7,8 @@
 //     set    n words
 //     then   step: state, event; values: state, length of the lent list, at most 300; rows: variable
 //
-// The output is a line STATE s, VALUES n, ROWS index length or REFUSE number carried.., and for values a line with the whole lent list,
-// whose elements are 238 before the call. Another call prints nothing.
+// The output is a line STATE s, VALUES n, ROWS n or REFUSE number carried.., then for values a line with the whole lent list, whose elements
+// are 238 before the call, and for rows a line with the words of the part. Another call prints nothing.
 mod calls; // each call and its lines
 mod fields; // the numbers of a line
 mod input; // bytes to words

@@ -69,6 +69,19 @@ fn wide(x: Value) -> u64 {
     x as u64
 }
 
+// A line with all words of a list.
+pub fn put_words(out: &mut [u8], at: usize, words: &[u32]) -> usize {
+    let mut on = at;
+    for i in 0..words.len() {
+        on = put_element(out, on, i, long(words[i]));
+    }
+    put(out, on, b'\n')
+}
+
+fn long(x: u32) -> u64 {
+    x as u64
+}
+
 // What was put up to a place.
 pub fn front(out: &[u8], at: usize) -> &[u8] {
     if out.len() < at {

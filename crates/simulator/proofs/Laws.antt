@@ -1,12 +1,12 @@
 -- One law for each way out of the functions of this crate, in the code's own terms.
 use mathlib.Core.Path.{_≡_, refl, sym, ap, _∙_, subst}
-use mathlib.Core.List.{List, [], _∷_}
+use mathlib.Core.List.{List, [], _∷_, _++_, append-nil}
 use mathlib.Core.Bool.{Bool, true, false, not}
 use Prim.Native.Nat.{ℕ, zero, suc, _+_, _-_, _%_, _≤_, _<_}
 use native.Mathlib.Omega.{arith}
 use native.Mathlib.Numerals.{add-one}
 use lib.ListN.{length, getD, set, length-set, take, drop, drop-of-length-le, List·getD-eq-default}
-use lib.Seq.{drop-cons, getD-set-same, getD-set-other, take-all, take-suc-set, take-suc}
+use lib.Seq.{sets, sets-eq, drop-cons, getD-set-same, getD-set-other}
 use lib.Dec.{eqb}
 use borrow.Author.Tests.{ne-eqb, eq-eqb, not-true, not-false}
 use Rattle.word.specs.Fields as W
@@ -208,16 +208,19 @@ values-are ws ps us s os b c k r eb e = e ∙ ap (stateWalk ws ps us s os) eb
 pub values-long : (f : ℕ → ℕ) (b c : List ℕ) (k : ℕ) → b ≡ listOf f k → length c ≡ length b → length c ≡ k
 values-long f b c k eb e = e ∙ ap length eb ∙ length-listOf f k
 
--- ---- copying
-pub copy-on : (from to : List ℕ) (i n m : ℕ) → i < n → n ≡ m → length to ≡ m → length from ≡ m → take i to ≡ take i from
-    → take (i + 1) (set to i (getD from i 0)) ≡ take (i + 1) from
-copy-on from to i n m h en lt lf e =
-    let l : i < length from = omega arith in
-    let k : i < length to = omega arith in
-    rw (add-one i, take-suc-set to i (getD from i 0) k, e) (sym (take-suc from i 0 l))
+-- ---- writing to the front of a lent list: what is left from here is the whole
+module _ (from out all : List ℕ) (i : ℕ) (inv : sets out i (drop i from) ≡ all) where
+  pub front-on : i < length from → sets (set out i (getD from i 0)) (i + 1) (drop (i + 1) from) ≡ all
+  front-on h = rw (add-one i) (rw (drop-cons from i 0 h) at inv)
 
-pub copy-all : (from to : List ℕ) (i n m : ℕ) → n ≤ i → n ≡ m → length to ≡ m → length from ≡ m → take i to ≡ take i from → to ≡ from
-copy-all from to i n m h en lt lf e = sym (take-all i to (omega arith)) ∙ e ∙ take-all i from (omega arith)
+  pub front-all : length from ≤ i → out ≡ all
+  front-all h = rw (drop-of-length-le from h) at inv
+
+-- a list that is written over whole
+pub front-whole : (from to out : List ℕ) → length from ≡ length out → to ≡ sets out 0 from → to ≡ from
+front-whole from to out l e =
+    let past : length out ≤ 0 + length from = omega arith in
+    e ∙ sets-eq from out 0 (omega arith) ∙ ap (λ (r : List ℕ). from ++ r) (drop-of-length-le out past) ∙ append-nil from
 
 -- ---- the step
 pub state-is : (ws ps us b : List ℕ) (n t : ℕ) → t ≡ numberAt ws ps us b n → R.State (t % 4294967296) ≡ R.State (numberAt ws ps us b n % 4294967296)

@@ -7,6 +7,13 @@ ghost use Rattle.word.specs.Fields as F;
 // A variable's value. Sizes go to 256.
 pub type Value = u8;
 
+// The limits that more than one crate needs, as specs/Limits has them.
+pub const MAX_VARIABLES: usize = 32;
+
+pub const MAX_ROWS: usize = 64;
+
+pub const MAX_DEPTH: usize = 16;
+
 // The `width` bits of w from bit `low` up.
 fn bits(w: u32, low: u32, width: u32) -> u32
     requires { ⌜ (low < 32) × (width < 32) ⌝ }

@@ -57,8 +57,7 @@ fn probe_values(set: &[u32], input: &mut Input) -> String {
 
 fn probe_rows(set: &[u32], variable: u32) -> String {
     let part = rows(set, variable as usize);
-    let first = if part.is_empty() { 0 } else { part_index(set, part) };
-    format!("ROWS {} {}\n", first, part.len())
+    format!("ROWS {}\n{}\n", part.len(), join(part))
 }
 
 /// Where a part of a list starts in it: the part lies in the caller's words and is no copy.

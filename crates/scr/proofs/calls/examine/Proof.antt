@@ -4,7 +4,7 @@ use Rattle.scr.proofs.calls.examine.Statement.{statement}
 use Rattle.scr.proofs.calls.examine.Tie as tie
 use Rattle.scr.proofs.calls.examine.Reads as reads
 use Rattle.scr.proofs.calls.examine.Lts as lts
-use Rattle.scr.proofs.calls.write_front.Reads as write-front-reads
+use Rattle.simulator.proofs.write_front.Reads as write-front-reads
 use Rattle.scr.proofs.refusals.gap.Reads as gap-reads
 use Rattle.scr.proofs.refusals.overlap.Reads as overlap-reads
 use Rattle.scr.proofs.refusals.step_overlap.Reads as step-overlap-reads

@@ -3,11 +3,11 @@ use lib.Seq.{sets}
 use lib.ListN.{length, drop, length-set}
 use Prim.Native.Nat.{_≤_, _-_}
 use mathlib.Core.Path.{_≡_, refl}
-use Rattle.scr.proofs.Calling.{front-on, front-all}
-use Rattle.scr.proofs.calls.write_front.Statement.{statement}
-use Rattle.scr.proofs.calls.write_front.Tie as tie
-use Rattle.scr.proofs.calls.write_front.Reads as reads
-use Rattle.scr.proofs.calls.write_front.Lts as lts
+use Rattle.simulator.proofs.Laws.{front-on, front-all}
+use Rattle.simulator.proofs.write_front.Statement.{statement}
+use Rattle.simulator.proofs.write_front.Tie as tie
+use Rattle.simulator.proofs.write_front.Reads as reads
+use Rattle.simulator.proofs.write_front.Lts as lts
 
 abbrev Inv-loop : tie.InvT-loop
 Inv-loop from out₀ i₀ i-end out i = (i ≤ length from) × (length out ≡ length out₀) × (sets out i (drop i from) ≡ sets out₀ 0 from)
