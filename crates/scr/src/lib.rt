@@ -21,8 +21,8 @@ ghost use Rattle.scr.specs.Promises.{StepsExactly};
 
 // An input event: a monitored variable and its new value.
 pub struct Input {
-    pub variable: u32,
-    pub value: u32,
+    pub variable: usize,
+    pub value: Value,
 }
 
 // The cycle shown: a variable and the number of moves back to it.
