@@ -1,3 +1,4 @@
 pub mod Refusing
+pub mod Opened
 pub mod Calling
 pub mod Entering

@@ -1,12 +1,13 @@
 // The public face: the answers, and the entries with their promises. Every entry takes words, states, events and lists of every content
 // and length.
 mod calls; // what is done once the set has been read
+mod opening; // reading the set
 mod refusals; // making refusals
 
+use crate::opening::Opened;
+use crate::opening::open;
 use part::part_end;
 use part::part_start;
-use set::SetRead;
-use set::read_set;
 use state::initial_state;
 use word::Value;
 ghost use mathlib.Core.Path.{_≡_};
@@ -21,8 +22,8 @@ ghost use Rattle.scr.specs.Promises.{StepsExactly};
 
 // An input event: a monitored variable and its new value.
 pub struct Input {
-    pub variable: u32,
-    pub value: u32,
+    pub variable: usize,
+    pub value: Value,
 }
 
 // The cycle shown: a variable and the number of moves back to it.
@@ -105,11 +106,10 @@ pub fn start(words: &[u32]) -> Answer
     let mut places = [0usize; 32];
     let mut weights = [0u32; 32];
     let mut order = [0usize; 32];
-    let r = read_set(words, &mut places, &mut weights, &mut order);
-    match r {
-        SetRead::Refused(k, x) => Answer::Refused(refusals::reading(k, x)),
-        SetRead::Cycle(v, m) => Answer::Refused(refusals::cycle(v, m)),
-        SetRead::Set(n, _, _) => Answer::State(initial_state(words, &places, &weights, n)),
+    let o = open(words, &mut places, &mut weights, &mut order);
+    match o {
+        Opened::Refused(q) => Answer::Refused(q),
+        Opened::Set(n, _, _) => Answer::State(initial_state(words, &places, &weights, n)),
     }
 }
 
@@ -122,11 +122,10 @@ pub fn step(words: &[u32], state: u32, event: u32) -> Answer
     let mut places = [0usize; 32];
     let mut weights = [0u32; 32];
     let mut order = [0usize; 32];
-    let r = read_set(words, &mut places, &mut weights, &mut order);
-    match r {
-        SetRead::Refused(k, x) => Answer::Refused(refusals::reading(k, x)),
-        SetRead::Cycle(v, m) => Answer::Refused(refusals::cycle(v, m)),
-        SetRead::Set(n, _, c) => calls::step(
+    let o = open(words, &mut places, &mut weights, &mut order);
+    match o {
+        Opened::Refused(q) => Answer::Refused(q),
+        Opened::Set(n, _, c) => calls::step(
             words,
             &places,
             &weights,
@@ -147,11 +146,10 @@ pub fn values(words: &[u32], state: u32, out: &mut [Value]) -> Count
     let mut places = [0usize; 32];
     let mut weights = [0u32; 32];
     let mut order = [0usize; 32];
-    let r = read_set(words, &mut places, &mut weights, &mut order);
-    match r {
-        SetRead::Refused(k, x) => Count::Refused(refusals::reading(k, x)),
-        SetRead::Cycle(v, m) => Count::Refused(refusals::cycle(v, m)),
-        SetRead::Set(n, _, c) => calls::values(
+    let o = open(words, &mut places, &mut weights, &mut order);
+    match o {
+        Opened::Refused(q) => Count::Refused(q),
+        Opened::Set(n, _, c) => calls::values(
             words,
             &places,
             &weights,

@@ -7,7 +7,7 @@ use crate::Overlap;
 use crate::Refusal;
 use crate::StepOverlap;
 use simulator::Stepped;
-use word::value;
+use word::given;
 use word::variable;
 ghost use mathlib.Core.Path.{_≡_};
 ghost use mathlib.Core.List.{List, [], _∷_};
@@ -72,8 +72,8 @@ pub fn step_overlap(state: u32, w: u32, v: usize, first: usize, second: usize) -
     ensures { λ r. ⌜ refusalSays r ≡ (12, state ∷ inputOf w .variable ∷ inputOf w .value ∷ v ∷ first ∷ second ∷ []) ⌝ }
 {
     let input = Input {
-        variable: variable(w),
-        value: value(w),
+        variable: variable(w) as usize,
+        value: given(w),
     };
     let o = StepOverlap {
         state: state,
