@@ -19,7 +19,7 @@ use Rattle.simulator.specs.declared.Settled as S
 use Rattle.simulator.specs.declared.Settled.the-variants as SV
 use Rattle.simulator.specs.declared.Stepped as T
 use Rattle.simulator.specs.Walks.{Walk, joined, stateWalk, walkSays, settledSays}
-use Rattle.simulator.specs.StepIndex.{steppedSays, stepIndex}
+use Rattle.simulator.specs.StepIndex.{steppedSays, stepIndex, examined}
 use Rattle.simulator.proofs.Laws.{said}
 use Rattle.scr.specs.declared.Refusal.{Refusal}
 use Rattle.scr.specs.declared.Refusal.the-variants as R
@@ -29,7 +29,7 @@ use Rattle.scr.specs.declared.Count.the-variants as C
 use Rattle.scr.specs.declared.opening.Opened as O
 use Rattle.scr.specs.declared.opening.Opened.the-variants as OV
 use Rattle.scr.specs.Answers.{refusalSays, refused, answerSays, countSays, countOf}
-use Rattle.scr.specs.Indexed.{isOk, readsWell, stepIn, examined, valuesIn}
+use Rattle.scr.specs.Indexed.{isOk, readsWell, stepIn, valuesIn}
 use Rattle.scr.specs.Opened.{OpenedAs}
 use Rattle.scr.proofs.Refusing.{refused-says}
 

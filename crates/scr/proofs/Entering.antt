@@ -17,6 +17,7 @@ use Rattle.meaning.specs.Order.{order}
 use Rattle.meaning.specs.States.{Values, stateCount, initialState, readSet}
 use Rattle.meaning.specs.Steps.{inputOf, stepAt, stepOf}
 use Rattle.meaning.specs.Calls.{startOf, valuesOf, lentValues, isTableOf, partFrom, rowsIf, rowsOf}
+use Rattle.meaning.specs.Check.{counts, checkStates, checkSteps, checkAssertions, checkSet, checkOf}
 use Rattle.theory.specs.Tests.{ltb-true}
 use Rattle.theory.specs.Found.{ok-not-refuse, ok-same}
 use Rattle.theory.specs.WellFormed.{WellFormed}
@@ -25,23 +26,33 @@ use Rattle.theory.specs.Numbers.{initial-below}
 use Rattle.theory.specs.StepExactly.{step-exactly}
 use Rattle.state.specs.Held.{initialNumber}
 use Rattle.state.proofs.Means.{count-is, initial-number}
-use Rattle.simulator.specs.Walks.{walkSays}
-use Rattle.simulator.specs.StepIndex.{stepIndex}
+use Rattle.simulator.specs.StepIndex.{stepIndex, examined}
 use Rattle.simulator.proofs.Means.{values-means, step-means}
+use Rattle.checker.proofs.Means.{check-means, events-mean}
 use Rattle.part.specs.Part.{startAt, endAt}
 use Rattle.part.proofs.Laws.{part-is, part-none}
 use Rattle.set.specs.ReadSet.{ReadSet}
 use Rattle.scr.specs.declared.Refusal.{Refusal}
 use Rattle.scr.specs.declared.Answer.{Answer}
 use Rattle.scr.specs.declared.Answer.the-variants as A
+use Rattle.scr.specs.declared.Verdict.{Verdict}
+use Rattle.scr.specs.declared.Verdict.the-variants as Verdicts
 use Rattle.scr.specs.declared.Count.{Count}
 use Rattle.scr.specs.declared.Count.the-variants as C
 use Rattle.scr.specs.declared.opening.Opened as O
 use Rattle.scr.specs.declared.opening.Opened.the-variants as OV
-use Rattle.scr.specs.Answers.{refused, answerSays, countSays, countOf}
+use Rattle.scr.specs.Answers.{refused, answerSays, verdictSays, countSays, countOf}
 use Rattle.scr.specs.Indexed as I
 use Rattle.scr.specs.Opened.{OpenedAs}
 use Rattle.scr.specs.Promises.{StepsExactly}
+
+-- what is made of the last answer may be made after all of them
+last-bound : {B : Type 0} (x y w : Outcome (Unit {0})) (d : ℕ) (f : ℕ → B)
+    → (x >>= λ _. y >>= λ _. w >>= λ _. ok (f d)) ≡ (x >>= (λ _. y >>= λ _. w >>= λ _. ok d) >>= λ m. ok (f m))
+last-bound (ok a) (ok b) (ok c) d f = refl
+last-bound (ok a) (ok b) (refuse k xs) d f = refl
+last-bound (ok a) (refuse k xs) w d f = refl
+last-bound (refuse k xs) y w d f = refl
 
 -- ---- what the index of a set gives
 module _ (ws : List ℕ) (z : TableSet) (n a c : ℕ) (ps us os : List ℕ) (r : ReadSet ws z n a c ps us os) where
@@ -69,7 +80,7 @@ module _ (ws : List ℕ) (z : TableSet) (n a c : ℕ) (ps us os : List ℕ) (r :
       go false e = refl
 
   values-said : (s room : ℕ) → valuesOf ws s room ≡ I.valuesIn ws ps us (take n os) n c s room
-  unfolding valuesOf I.valuesIn I.examined
+  unfolding valuesOf I.valuesIn examined
   values-said s room =
       rw (
         r .reads,
@@ -79,11 +90,27 @@ module _ (ws : List ℕ) (z : TableSet) (n a c : ℕ) (ps us os : List ℕ) (r :
         values-means ws z n a ps us (r .typed .indexed) well (r .typed .weights-are) s (inputOf 0),
       )
 
+  verdict-said : checkOf ws ≡ I.verdictIn ws ps us (take n os) n a c
+  unfolding checkOf checkSet I.verdictIn counts
+  verdict-said =
+      rw (
+        r .reads,
+        r .typed .states-are,
+        r .order-is,
+        check-means ws z n a ps us (r .typed .indexed) well (r .typed .weights-are) few,
+        events-mean ws z n a ps us (r .typed .indexed) well (r .typed .weights-are),
+      )
+      (last-bound (checkStates z) (checkSteps z) (checkAssertions z) (length (z .assertions)) _)
+
 -- ---- by what the entry begins with
 module _ (ws ps us os : List ℕ) (o : O.Opened) (h : OpenedAs ws o ps us os) where
   pub index-few : (n a c : ℕ) → o ≡ OV.Set n a c → n ≤ 32
   unfolding OpenedAs
   index-few n a c e = let p = rw e at h in p .1 .typed .indexed .few
+
+  pub states-room : (n a c : ℕ) → o ≡ OV.Set n a c → c ≤ 65536
+  unfolding OpenedAs
+  states-room n a c e = let p = rw e at h in rw (p .1 .typed .states-are) (few ws (p .0) n a c ps us os (p .1))
 
   pub order-room : (n a c : ℕ) → o ≡ OV.Set n a c → n ≤ length os
   unfolding OpenedAs
@@ -98,6 +125,10 @@ module _ (ws ps us os : List ℕ) (o : O.Opened) (h : OpenedAs ws o ps us os) wh
     pub start-refused : answerSays (A.Refused q) ≡ startOf ws
     unfolding answerSays startOf
     start-refused = refused-first _
+
+    pub check-refused : verdictSays (Verdicts.Refused q) ≡ checkOf ws
+    unfolding verdictSays checkOf
+    check-refused = refused-first _
 
     pub step-refused : (s w : ℕ) → answerSays (A.Refused q) ≡ stepOf ws s w
     unfolding answerSays stepOf
@@ -124,6 +155,10 @@ module _ (ws ps us os : List ℕ) (o : O.Opened) (h : OpenedAs ws o ps us os) wh
     pub start-set : (t : ℕ) → t ≡ initialNumber ws ps us n % 4294967296 → answerSays (A.State t) ≡ startOf ws
     unfolding OpenedAs answerSays
     start-set t et = let p = rw e at h in rw et (sym (start-said ws (p .0) n a c ps us os (p .1)))
+
+    pub check-set : (r : Verdict) → verdictSays r ≡ I.verdictIn ws ps us (take (n - 0) (drop 0 os)) n a c → verdictSays r ≡ checkOf ws
+    unfolding OpenedAs
+    check-set r er = let p = rw e at h in (rw part-of-order at er) ∙ sym (verdict-said ws (p .0) n a c ps us os (p .1))
 
     pub step-set : (s w : ℕ) (r : Answer) → answerSays r ≡ I.stepIn ws ps us (take (n - 0) (drop 0 os)) n c s w → answerSays r ≡ stepOf ws s w
     unfolding OpenedAs

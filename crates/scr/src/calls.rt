@@ -16,7 +16,8 @@ ghost use Prim.Native.Nat.{ℕ, _≤_};
 ghost use lib.ListN.{length};
 ghost use Rattle.meaning.specs.Calls.{lentValues};
 ghost use Rattle.scr.specs.Answers.{answerSays, countSays, countOf};
-ghost use Rattle.scr.specs.Indexed.{stepIn, examined, valuesIn, readsWell};
+ghost use Rattle.simulator.specs.StepIndex.{examined};
+ghost use Rattle.scr.specs.Indexed.{stepIn, valuesIn, readsWell};
 
 // Does the set read (refusals 1 to 9)?
 pub fn reads(words: &[u32]) -> bool

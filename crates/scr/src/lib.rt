@@ -3,20 +3,23 @@
 mod calls; // what is done once the set has been read
 mod opening; // reading the set
 mod refusals; // making refusals
+mod verdicts; // the verdict of a set that reads
 
 use crate::opening::Opened;
 use crate::opening::open;
 use part::part_end;
 use part::part_start;
 use state::initial_state;
+use verdicts::verdict;
 use word::Value;
 ghost use mathlib.Core.Path.{_≡_};
 ghost use Prim.Native.Nat.{ℕ};
 ghost use lib.ListN.{length};
 ghost use Rattle.meaning.specs.Calls.{startOf, valuesOf, lentValues, rowsOf};
 ghost use Rattle.meaning.specs.Steps.{stepOf};
-ghost use Rattle.scr.specs.Answers.{answerSays, countSays, countOf};
-ghost use Rattle.scr.specs.Promises.{StepsExactly};
+ghost use Rattle.meaning.specs.Check.{checkOf};
+ghost use Rattle.scr.specs.Answers.{answerSays, verdictSays, countSays, countOf};
+ghost use Rattle.scr.specs.Promises.{Demand2, StepsExactly};
 
 // ---- answers
 
@@ -91,6 +94,19 @@ pub enum Answer {
     Refused(Refusal),
 }
 
+// What a pass carries: the states and the steps tried, and the assertions.
+pub struct Counts {
+    pub states: u32,
+    pub steps: u64,
+    pub assertions: usize,
+}
+
+// A pass, or the refusal.
+pub enum Verdict {
+    Pass(Counts),
+    Refused(Refusal),
+}
+
 // The number of values written, or the refusal.
 pub enum Count {
     Written(usize),
@@ -110,6 +126,21 @@ pub fn start(words: &[u32]) -> Answer
     match o {
         Opened::Refused(q) => Answer::Refused(q),
         Opened::Set(n, _, _) => Answer::State(initial_state(words, &places, &weights, n)),
+    }
+}
+
+// The word that a set may be loaded: all typed states and all typed steps are tried, and every assertion.
+pub fn check(words: &[u32]) -> Verdict
+    ensures { λ r. ⌜ verdictSays r ≡ checkOf (now (words .entry)) ⌝ }
+    ensures { λ r. ⌜ Demand2 (now (words .entry)) r ⌝ }
+{
+    let mut places = [0usize; 32];
+    let mut weights = [0u32; 32];
+    let mut order = [0usize; 32];
+    let o = open(words, &mut places, &mut weights, &mut order);
+    match o {
+        Opened::Refused(q) => Verdict::Refused(q),
+        Opened::Set(n, a, c) => verdict(words, &places, &weights, &order[0..n], n, a, c),
     }
 }
 
