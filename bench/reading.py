@@ -4,53 +4,47 @@ Run after `rt check scrprobe`. The difference of the two is the reading of 4,095
 the instructions are counted too, which repeat exactly."""
 import re
 import shutil
-import struct
 import subprocess
 import time
+
+from words import CONDITION_TABLE, CONTROLLED, EVENT_TABLE, MODE_CLASS, MODE_TABLE, MONITORED
+from words import assertion, both, call, either, equals, no, rises, row, table, variable
 
 PROBE = "target/bin/scrprobe"
 RUNS = 1000
 
 
-def test(variable, value):
-    return 0x40000000 | variable << 20 | value
-
-
 def tree(words):
     """A condition of so many words."""
     if words == 1:
-        return [test(0, 1)]
+        return equals(0, 1)
     if words == 2:
-        return [0x50000000, test(1, 0)]
+        return no(equals(1, 0))
     left = (words - 1) // 2
-    return [0x60000000] + tree(left) + tree(words - 1 - left)
+    return both(tree(left), tree(words - 1 - left))
 
 
 def event_row(mode, value, i):
-    return [0x30000000 | mode << 20 | value, 0x81000000, test(i % 8, 1), 0x60000000, test((i + 1) % 8, 1), test((i + 2) % 8, 0)]
+    return row(mode, value, rises(equals(i % 8, 1), both(equals((i + 1) % 8, 1), equals((i + 2) % 8, 0))))
 
 
 def condition_row(mode, value, i):
-    return [0x30000000 | mode << 20 | value, 0x60000000, test(i % 8, i // 8 % 2), 0x70000000, test((i + 3) % 8, 1), test((i + 5) % 8, 0)]
+    return row(mode, value, both(equals(i % 8, i // 8 % 2), either(equals((i + 3) % 8, 1), equals((i + 5) % 8, 0))))
 
 
 def largest_set():
     """Eight inputs, a mode class with 64 rows, eleven outputs with 20 rows each, and assertions up to 4,096 words."""
-    words = [0x11002000] * 8 + [0x12004000] + [0x14002000] * 11
-    words.append(0x21000000 | 8 << 16 | 8 << 8)
+    words = [variable(MONITORED, 2)] * 8 + [variable(MODE_CLASS, 4)] + [variable(CONTROLLED, 2)] * 11
+    words.append(table(MODE_TABLE, 8, 8))
     for i in range(64):
         words += event_row(i % 4, (i + 1) % 4, i)
     for v in range(9, 20):
-        words.append((0x22000000 if v % 2 else 0x23000000) | v << 16 | 8 << 8)
+        words.append(table(EVENT_TABLE if v % 2 else CONDITION_TABLE, v, 8))
         for i in range(20):
             words += event_row(i % 4, i % 2, i) if v % 2 else condition_row(i % 4, i % 2, i)
     while len(words) < 4096:
-        words += [0xA1000000] + tree(min(200, 4096 - len(words) - 1))
+        words += assertion(tree(min(200, 4096 - len(words) - 1)))
     return words
-
-
-def call(words):
-    return struct.pack("<II", 1, len(words)) + b"".join(struct.pack("<I", w) for w in words)
 
 
 def seconds(data):
@@ -70,7 +64,7 @@ def instructions(data):
     return int(re.search(r"refs:\s+([\d,]+)", told).group(1).replace(",", ""))
 
 
-large, small = call(largest_set()), call([0x11002000])
+large, small = call(1, largest_set()), call(1, [variable(MONITORED, 2)])
 print("answer:", subprocess.run([PROBE], input=large, capture_output=True, check=True).stdout.decode().strip())
 print(f"reading 4,096 words: {(seconds(large) - seconds(small)) * 1e6:.0f} microseconds (median of five, {RUNS} runs)")
 if shutil.which("valgrind"):

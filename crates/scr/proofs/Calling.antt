@@ -19,32 +19,28 @@ use Rattle.simulator.specs.declared.Settled as S
 use Rattle.simulator.specs.declared.Settled.the-variants as SV
 use Rattle.simulator.specs.declared.Stepped as T
 use Rattle.simulator.specs.Walks.{Walk, joined, stateWalk, walkSays, settledSays}
-use Rattle.simulator.specs.StepIndex.{steppedSays, stepIndex}
+use Rattle.simulator.specs.StepIndex.{steppedSays, stepIndex, examined}
 use Rattle.simulator.proofs.Laws.{said}
-use Rattle.set.specs.declared.SetRead as Q
-use Rattle.set.specs.declared.SetRead.the-variants as QV
-use Rattle.set.specs.ReadSet.{SetAs}
 use Rattle.scr.specs.declared.Refusal.{Refusal}
 use Rattle.scr.specs.declared.Refusal.the-variants as R
 use Rattle.scr.specs.declared.Answer.{Answer}
 use Rattle.scr.specs.declared.Answer.the-variants as A
 use Rattle.scr.specs.declared.Count.the-variants as C
+use Rattle.scr.specs.declared.opening.Opened as O
+use Rattle.scr.specs.declared.opening.Opened.the-variants as OV
 use Rattle.scr.specs.Answers.{refusalSays, refused, answerSays, countSays, countOf}
-use Rattle.scr.specs.Indexed.{isOk, readsWell, stepIn, examined, valuesIn}
+use Rattle.scr.specs.Indexed.{isOk, readsWell, stepIn, valuesIn}
+use Rattle.scr.specs.Opened.{OpenedAs}
 use Rattle.scr.proofs.Refusing.{refused-says}
 
 -- ---- does the set read?
-module _ (ws ps us os : List ℕ) (q : Q.SetRead) (h : SetAs ws q ps us os) where
-  pub reads-refused : (k x : ℕ) → q ≡ QV.Refused k x → false ≡ readsWell ws
-  unfolding readsWell isOk SetAs
-  reads-refused k x e = let p = rw e at h in rw (p .0)
+module _ (ws ps us os : List ℕ) (o : O.Opened) (h : OpenedAs ws o ps us os) where
+  pub reads-refused : (q : Refusal) → o ≡ OV.Refused q → false ≡ readsWell ws
+  unfolding readsWell isOk OpenedAs refused
+  reads-refused q e = let p = rw e at h in rw p
 
-  pub reads-cycle : (v m : ℕ) → q ≡ QV.Cycle v m → false ≡ readsWell ws
-  unfolding readsWell isOk SetAs
-  reads-cycle v m e = let p = rw e at h in rw p
-
-  pub reads-set : (n a c : ℕ) → q ≡ QV.Set n a c → true ≡ readsWell ws
-  unfolding readsWell isOk SetAs
+  pub reads-set : (n a c : ℕ) → o ≡ OV.Set n a c → true ≡ readsWell ws
+  unfolding readsWell isOk OpenedAs
   reads-set n a c e = let p = rw e at h in rw (p .1 .reads)
 
 -- ---- step

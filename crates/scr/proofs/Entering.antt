@@ -7,18 +7,17 @@ use mathlib.Core.List.{List, [], _∷_}
 use Prim.Native.Nat.{ℕ, zero, suc, _+_, _-_, _%_, _≤_, _<_}
 use native.Mathlib.Omega.{arith}
 use native.Mathlib.Nat.{mod-eq-of-lt}
-use lib.Dec.{leb, ltb}
+use lib.Dec.{ltb}
 use lib.ListN.{length, getD, take, drop}
 use borrow.Author.Tests.{not-true, not-false}
 use Rattle.meaning.specs.Answers.{Outcome, ok, refuse, _>>=_, demand}
 use Rattle.meaning.specs.Searches.{least}
 use Rattle.meaning.specs.Syntax.{TableSet}
-use Rattle.meaning.specs.Lookup.{count}
 use Rattle.meaning.specs.Order.{order}
 use Rattle.meaning.specs.States.{Values, stateCount, initialState, readSet}
-use Rattle.meaning.specs.Steps as Steps
 use Rattle.meaning.specs.Steps.{inputOf, stepAt, stepOf}
 use Rattle.meaning.specs.Calls.{startOf, valuesOf, lentValues, isTableOf, partFrom, rowsIf, rowsOf}
+use Rattle.meaning.specs.Check.{counts, checkStates, checkSteps, checkAssertions, checkSet, checkOf}
 use Rattle.theory.specs.Tests.{ltb-true}
 use Rattle.theory.specs.Found.{ok-not-refuse, ok-same}
 use Rattle.theory.specs.WellFormed.{WellFormed}
@@ -27,23 +26,33 @@ use Rattle.theory.specs.Numbers.{initial-below}
 use Rattle.theory.specs.StepExactly.{step-exactly}
 use Rattle.state.specs.Held.{initialNumber}
 use Rattle.state.proofs.Means.{count-is, initial-number}
-use Rattle.simulator.specs.Walks.{walkSays}
-use Rattle.simulator.specs.StepIndex.{stepIndex}
+use Rattle.simulator.specs.StepIndex.{stepIndex, examined}
 use Rattle.simulator.proofs.Means.{values-means, step-means}
+use Rattle.checker.proofs.Means.{check-means, events-mean}
 use Rattle.part.specs.Part.{startAt, endAt}
 use Rattle.part.proofs.Laws.{part-is, part-none}
-use Rattle.set.specs.declared.SetRead as Q
-use Rattle.set.specs.declared.SetRead.the-variants as QV
-use Rattle.set.specs.ReadSet.{ReadSet, SetAs}
+use Rattle.set.specs.ReadSet.{ReadSet}
 use Rattle.scr.specs.declared.Refusal.{Refusal}
 use Rattle.scr.specs.declared.Answer.{Answer}
 use Rattle.scr.specs.declared.Answer.the-variants as A
+use Rattle.scr.specs.declared.Verdict.{Verdict}
+use Rattle.scr.specs.declared.Verdict.the-variants as Verdicts
 use Rattle.scr.specs.declared.Count.{Count}
 use Rattle.scr.specs.declared.Count.the-variants as C
-use Rattle.scr.specs.Answers.{refusalSays, refused, answerSays, countSays, countOf}
+use Rattle.scr.specs.declared.opening.Opened as O
+use Rattle.scr.specs.declared.opening.Opened.the-variants as OV
+use Rattle.scr.specs.Answers.{refused, answerSays, verdictSays, countSays, countOf}
 use Rattle.scr.specs.Indexed as I
+use Rattle.scr.specs.Opened.{OpenedAs}
 use Rattle.scr.specs.Promises.{StepsExactly}
-use Rattle.scr.proofs.Refusing.{refused-says}
+
+-- what is made of the last answer may be made after all of them
+last-bound : {B : Type 0} (x y w : Outcome (Unit {0})) (d : ℕ) (f : ℕ → B)
+    → (x >>= λ _. y >>= λ _. w >>= λ _. ok (f d)) ≡ (x >>= (λ _. y >>= λ _. w >>= λ _. ok d) >>= λ m. ok (f m))
+last-bound (ok a) (ok b) (ok c) d f = refl
+last-bound (ok a) (ok b) (refuse k xs) d f = refl
+last-bound (ok a) (refuse k xs) w d f = refl
+last-bound (refuse k xs) y w d f = refl
 
 -- ---- what the index of a set gives
 module _ (ws : List ℕ) (z : TableSet) (n a c : ℕ) (ps us os : List ℕ) (r : ReadSet ws z n a c ps us os) where
@@ -71,7 +80,7 @@ module _ (ws : List ℕ) (z : TableSet) (n a c : ℕ) (ps us os : List ℕ) (r :
       go false e = refl
 
   values-said : (s room : ℕ) → valuesOf ws s room ≡ I.valuesIn ws ps us (take n os) n c s room
-  unfolding valuesOf I.valuesIn I.examined
+  unfolding valuesOf I.valuesIn examined
   values-said s room =
       rw (
         r .reads,
@@ -81,109 +90,95 @@ module _ (ws : List ℕ) (z : TableSet) (n a c : ℕ) (ps us os : List ℕ) (r :
         values-means ws z n a ps us (r .typed .indexed) well (r .typed .weights-are) s (inputOf 0),
       )
 
--- ---- by the answer of the reading
-module _ (ws ps us os : List ℕ) (q : Q.SetRead) (h : SetAs ws q ps us os) where
-  pub reading-low : (k x : ℕ) → q ≡ QV.Refused k x → 1 ≤ k
-  unfolding SetAs
-  reading-low k x e = let p = rw e at h in p .1
+  verdict-said : checkOf ws ≡ I.verdictIn ws ps us (take n os) n a c
+  unfolding checkOf checkSet I.verdictIn counts
+  verdict-said =
+      rw (
+        r .reads,
+        r .typed .states-are,
+        r .order-is,
+        check-means ws z n a ps us (r .typed .indexed) well (r .typed .weights-are) few,
+        events-mean ws z n a ps us (r .typed .indexed) well (r .typed .weights-are),
+      )
+      (last-bound (checkStates z) (checkSteps z) (checkAssertions z) (length (z .assertions)) _)
 
-  pub reading-high : (k x : ℕ) → q ≡ QV.Refused k x → k ≤ 8
-  unfolding SetAs
-  reading-high k x e = let p = rw e at h in p .2
-
-  pub index-few : (n a c : ℕ) → q ≡ QV.Set n a c → n ≤ 32
-  unfolding SetAs
+-- ---- by what the entry begins with
+module _ (ws ps us os : List ℕ) (o : O.Opened) (h : OpenedAs ws o ps us os) where
+  pub index-few : (n a c : ℕ) → o ≡ OV.Set n a c → n ≤ 32
+  unfolding OpenedAs
   index-few n a c e = let p = rw e at h in p .1 .typed .indexed .few
 
-  pub order-room : (n a c : ℕ) → q ≡ QV.Set n a c → n ≤ length os
-  unfolding SetAs
+  pub states-room : (n a c : ℕ) → o ≡ OV.Set n a c → c ≤ 65536
+  unfolding OpenedAs
+  states-room n a c e = let p = rw e at h in rw (p .1 .typed .states-are) (few ws (p .0) n a c ps us os (p .1))
+
+  pub order-room : (n a c : ℕ) → o ≡ OV.Set n a c → n ≤ length os
+  unfolding OpenedAs
   order-room n a c e = let p = rw e at h in omega (arith, p .1 .typed .indexed .few, p .1 .order-long)
 
   -- a call that begins with the reading is refused as the reading is
-  module _ (r : Refusal) where
-    refused-first : {B : Type 0} (f : TableSet → Outcome B) (k x : ℕ) → q ≡ QV.Refused k x → refusalSays r ≡ (k, x ∷ [])
-        → refused r ≡ (readSet ws >>= f)
-    unfolding SetAs
-    refused-first f k x e er = let p = rw e at h in rw (p .0) (refused-says r k (x ∷ []) er)
+  module _ (q : Refusal) (e : o ≡ OV.Refused q) where
+    refused-first : {B : Type 0} (f : TableSet → Outcome B) → refused q ≡ (readSet ws >>= f)
+    unfolding OpenedAs refused
+    refused-first f = let p = rw e at h in rw p
 
-    cycle-first : {B : Type 0} (f : TableSet → Outcome B) (v m : ℕ) → q ≡ QV.Cycle v m → refusalSays r ≡ (9, v ∷ m ∷ [])
-        → refused r ≡ (readSet ws >>= f)
-    unfolding SetAs
-    cycle-first f v m e er = let p = rw e at h in rw p (refused-says r 9 (v ∷ m ∷ []) er)
-
-    pub start-refused : (k x : ℕ) → q ≡ QV.Refused k x → refusalSays r ≡ (k, x ∷ []) → answerSays (A.Refused r) ≡ startOf ws
+    pub start-refused : answerSays (A.Refused q) ≡ startOf ws
     unfolding answerSays startOf
-    start-refused k x e er = refused-first (λ z. ok (initialState z)) k x e er
+    start-refused = refused-first _
 
-    pub start-cycle : (v m : ℕ) → q ≡ QV.Cycle v m → refusalSays r ≡ (9, v ∷ m ∷ []) → answerSays (A.Refused r) ≡ startOf ws
-    unfolding answerSays startOf
-    start-cycle v m e er = cycle-first (λ z. ok (initialState z)) v m e er
+    pub check-refused : verdictSays (Verdicts.Refused q) ≡ checkOf ws
+    unfolding verdictSays checkOf
+    check-refused = refused-first _
 
-    module _ (s w : ℕ) where
-      pub step-refused : (k x : ℕ) → q ≡ QV.Refused k x → refusalSays r ≡ (k, x ∷ []) → answerSays (A.Refused r) ≡ stepOf ws s w
-      unfolding answerSays stepOf
-      step-refused k x e er = refused-first (λ z. demand (ltb s (stateCount z)) 15 (s ∷ []) >>= λ _. stepAt z 0 s w) k x e er
-
-      pub step-cycle : (v m : ℕ) → q ≡ QV.Cycle v m → refusalSays r ≡ (9, v ∷ m ∷ []) → answerSays (A.Refused r) ≡ stepOf ws s w
-      unfolding answerSays stepOf
-      step-cycle v m e er = cycle-first (λ z. demand (ltb s (stateCount z)) 15 (s ∷ []) >>= λ _. stepAt z 0 s w) v m e er
+    pub step-refused : (s w : ℕ) → answerSays (A.Refused q) ≡ stepOf ws s w
+    unfolding answerSays stepOf
+    step-refused s w = refused-first _
 
     module _ (s room : ℕ) where
-      abbrev Rest : TableSet → Outcome Values
-      Rest z =
-          demand (leb (count z) room) 17 (count z ∷ []) >>= λ _.
-          demand (ltb s (stateCount z)) 15 (s ∷ []) >>= λ _.
-          Steps.valuesIn z s
+      values-first : refused q ≡ valuesOf ws s room
+      unfolding valuesOf
+      values-first = refused-first _
 
-      count-first : (k : ℕ) (xs : List ℕ) → valuesOf ws s room ≡ refuse k xs → refusalSays r ≡ (k, xs) → countSays (C.Refused r) ≡ countOf (valuesOf ws s room)
-      unfolding countSays countOf
-      count-first k xs e er = rw e (refused-says r k xs er)
+      pub values-refused : countSays (C.Refused q) ≡ countOf (valuesOf ws s room)
+      unfolding countSays countOf refused
+      values-refused = ap countOf values-first
 
-      pub values-refused : (k x : ℕ) → q ≡ QV.Refused k x → refusalSays r ≡ (k, x ∷ []) → countSays (C.Refused r) ≡ countOf (valuesOf ws s room)
-      unfolding valuesOf SetAs
-      values-refused k x e er = let p = rw e at h in count-first k (x ∷ []) (rw (p .0)) er
-
-      pub values-cycle : (v m : ℕ) → q ≡ QV.Cycle v m → refusalSays r ≡ (9, v ∷ m ∷ []) → countSays (C.Refused r) ≡ countOf (valuesOf ws s room)
-      unfolding valuesOf SetAs
-      values-cycle v m e er = let p = rw e at h in count-first 9 (v ∷ m ∷ []) (rw p) er
-
-  module _ (s room : ℕ) (out : List ℕ) where
-    pub kept-refused : (k x : ℕ) → q ≡ QV.Refused k x → out ≡ lentValues (valuesOf ws s room) out
-    unfolding valuesOf SetAs lentValues
-    kept-refused k x e = let p = rw e at h in rw (p .0)
-
-    pub kept-cycle : (v m : ℕ) → q ≡ QV.Cycle v m → out ≡ lentValues (valuesOf ws s room) out
-    unfolding valuesOf SetAs lentValues
-    kept-cycle v m e = let p = rw e at h in rw p
+      pub kept-refused : (out : List ℕ) → out ≡ lentValues (valuesOf ws s room) out
+      unfolding lentValues refused
+      kept-refused out = ap (λ (x : Outcome Values). lentValues x out) values-first
 
   -- ---- the set is there; its order is lent as a part
-  module _ (n a c : ℕ) (e : q ≡ QV.Set n a c) where
+  module _ (n a c : ℕ) (e : o ≡ OV.Set n a c) where
     part-of-order : take (n - 0) (drop 0 os) ≡ take n os
     part-of-order = let l : n - 0 ≡ n = omega arith in rw l
 
     pub start-set : (t : ℕ) → t ≡ initialNumber ws ps us n % 4294967296 → answerSays (A.State t) ≡ startOf ws
-    unfolding SetAs answerSays
+    unfolding OpenedAs answerSays
     start-set t et = let p = rw e at h in rw et (sym (start-said ws (p .0) n a c ps us os (p .1)))
 
+    pub check-set : (r : Verdict) → verdictSays r ≡ I.verdictIn ws ps us (take (n - 0) (drop 0 os)) n a c → verdictSays r ≡ checkOf ws
+    unfolding OpenedAs
+    check-set r er = let p = rw e at h in (rw part-of-order at er) ∙ sym (verdict-said ws (p .0) n a c ps us os (p .1))
+
     pub step-set : (s w : ℕ) (r : Answer) → answerSays r ≡ I.stepIn ws ps us (take (n - 0) (drop 0 os)) n c s w → answerSays r ≡ stepOf ws s w
-    unfolding SetAs
+    unfolding OpenedAs
     step-set s w r er =
         let p = rw e at h in
         (rw part-of-order at er) ∙ sym (step-said ws (p .0) n a c ps us os (p .1) s w)
 
     pub values-set : (s room : ℕ) (r : Count) → countSays r ≡ countOf (I.valuesIn ws ps us (take (n - 0) (drop 0 os)) n c s room)
         → countSays r ≡ countOf (valuesOf ws s room)
-    unfolding SetAs
+    unfolding OpenedAs
     values-set s room r er =
         let p = rw e at h in
         (rw part-of-order at er) ∙ ap countOf (sym (values-said ws (p .0) n a c ps us os (p .1) s room))
 
     pub written-set : (s room : ℕ) (out after : List ℕ) → after ≡ lentValues (I.valuesIn ws ps us (take (n - 0) (drop 0 os)) n c s room) out
         → after ≡ lentValues (valuesOf ws s room) out
-    unfolding SetAs
+    unfolding OpenedAs
     written-set s room out after er =
         let p = rw e at h in
-        (rw part-of-order at er) ∙ ap (λ (o : Outcome Values). lentValues o out) (sym (values-said ws (p .0) n a c ps us os (p .1) s room))
+        (rw part-of-order at er) ∙ ap (λ (x : Outcome Values). lentValues x out) (sym (values-said ws (p .0) n a c ps us os (p .1) s room))
 
 -- ---- step's promise follows from its equation
 answer-state : (r : Answer) (t : ℕ) → (r ≡ A.State t) ↔ (answerSays r ≡ ok t)

@@ -1,3 +1,5 @@
 pub mod Refusing
+pub mod Opened
 pub mod Calling
+pub mod Deciding
 pub mod Entering

@@ -7,6 +7,9 @@ use Rattle.scr.specs.declared.Refusal.{Refusal}
 use Rattle.scr.specs.declared.Refusal.the-variants as R
 use Rattle.scr.specs.declared.Answer.{Answer}
 use Rattle.scr.specs.declared.Answer.the-variants as A
+use Rattle.meaning.specs.Check.{Counts}
+use Rattle.scr.specs.declared.Verdict.{Verdict}
+use Rattle.scr.specs.declared.Verdict.the-variants as Verdicts
 use Rattle.scr.specs.declared.Count.{Count}
 use Rattle.scr.specs.declared.Count.the-variants as C
 
@@ -38,6 +41,10 @@ refused r = refuse (refusalSays r .0) (refusalSays r .1)
 unfoldable pub answerSays : Answer → Outcome ℕ
 answerSays (A.State s) = ok s
 answerSays (A.Refused r) = refused r
+
+unfoldable pub verdictSays : Verdict → Outcome Counts
+verdictSays (Verdicts.Pass c) = ok (record { states = c .states; steps = c .steps; assertions = c .assertions })
+verdictSays (Verdicts.Refused r) = refused r
 
 unfoldable pub countSays : Count → Outcome ℕ
 countSays (C.Written n) = ok n

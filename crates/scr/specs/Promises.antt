@@ -7,12 +7,26 @@ use mathlib.Core.List.{List}
 use Rattle.meaning.specs.Syntax.{TableSet}
 use Rattle.meaning.specs.States.{stateCount}
 use Rattle.meaning.specs.Steps.{inputOf, enabledWord}
+use Rattle.meaning.specs.Answers.{ok, refuse}
+use Rattle.meaning.specs.Check.{Counts, counts}
 use Rattle.meaning.specs.Moved.{Clean}
-use Rattle.meaning.specs.Passes.{Reads}
+use Rattle.meaning.specs.Passes.{Reads, Passes, Refused}
 use Rattle.scr.specs.declared.Answer.{Answer}
 use Rattle.scr.specs.declared.Answer.the-variants.{State}
+use Rattle.scr.specs.declared.Verdict.{Verdict}
+use Rattle.scr.specs.Answers.{verdictSays}
 
--- "A simulated step gives the next state by the SCR rules and no other" (demand 2): step answers s′ exactly if the set reads, s is one of
+-- Demand 2, of check: "A set passes exactly if it reads, its tables have a dependency order, no condition table has a gap or an overlap at a
+-- typed state, no mode or event table an overlap at a typed step, and each assertion holds initially and is kept by every step under
+-- the earlier ones. Each refusal shows the first such cycle, gap, overlap or violating step."
+-- `Passes` and `Refused` say it of the words and the set; nothing in them is taken from what check works out.
+pub record Demand2 (ws : List ℕ) (r : Verdict) : Type 0 where
+  -- a pass, with the three counts
+  pub passes : (c : Counts) → (verdictSays r ≡ ok c) ↔ ((z : TableSet) × Passes ws z × (c ≡ counts z))
+  -- a refusal, with its number and what it carries
+  pub refuses : (n : ℕ) (xs : List ℕ) → (verdictSays r ≡ refuse n xs) ↔ Refused ws n xs
+
+-- Demand 2, of step: "A simulated step gives the next state by the SCR rules and no other." Step answers s′ exactly if the set reads, s is one of
 -- its typed states, the word is enabled there, and s′ is the one next state, met without a gap or an overlap in the state, the step or
 -- the state after.
 abbrev pub StepsExactly : List ℕ → ℕ → ℕ → Answer → Type 0

@@ -2,9 +2,9 @@
 use crate::Answer;
 use crate::Count;
 use crate::Refusal;
+use crate::opening::Opened;
+use crate::opening::open;
 use crate::refusals;
-use set::SetRead;
-use set::read_set;
 use simulator::Settled;
 use simulator::step_from;
 use simulator::values_in;
@@ -16,7 +16,8 @@ ghost use Prim.Native.Nat.{ℕ, _≤_};
 ghost use lib.ListN.{length};
 ghost use Rattle.meaning.specs.Calls.{lentValues};
 ghost use Rattle.scr.specs.Answers.{answerSays, countSays, countOf};
-ghost use Rattle.scr.specs.Indexed.{stepIn, examined, valuesIn, readsWell};
+ghost use Rattle.simulator.specs.StepIndex.{examined};
+ghost use Rattle.scr.specs.Indexed.{stepIn, valuesIn, readsWell};
 
 // Does the set read (refusals 1 to 9)?
 pub fn reads(words: &[u32]) -> bool
@@ -25,11 +26,10 @@ pub fn reads(words: &[u32]) -> bool
     let mut places = [0usize; 32];
     let mut weights = [0u32; 32];
     let mut order = [0usize; 32];
-    let r = read_set(words, &mut places, &mut weights, &mut order);
-    match r {
-        SetRead::Refused(_, _) => false,
-        SetRead::Cycle(_, _) => false,
-        SetRead::Set(_, _, _) => true,
+    let o = open(words, &mut places, &mut weights, &mut order);
+    match o {
+        Opened::Refused(_) => false,
+        Opened::Set(_, _, _) => true,
     }
 }
 

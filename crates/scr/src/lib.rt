@@ -1,28 +1,32 @@
 // The public face: the answers, and the entries with their promises. Every entry takes words, states, events and lists of every content
 // and length.
 mod calls; // what is done once the set has been read
+mod opening; // reading the set
 mod refusals; // making refusals
+mod verdicts; // the verdict of a set that reads
 
+use crate::opening::Opened;
+use crate::opening::open;
 use part::part_end;
 use part::part_start;
-use set::SetRead;
-use set::read_set;
 use state::initial_state;
+use verdicts::verdict;
 use word::Value;
 ghost use mathlib.Core.Path.{_≡_};
 ghost use Prim.Native.Nat.{ℕ};
 ghost use lib.ListN.{length};
 ghost use Rattle.meaning.specs.Calls.{startOf, valuesOf, lentValues, rowsOf};
 ghost use Rattle.meaning.specs.Steps.{stepOf};
-ghost use Rattle.scr.specs.Answers.{answerSays, countSays, countOf};
-ghost use Rattle.scr.specs.Promises.{StepsExactly};
+ghost use Rattle.meaning.specs.Check.{checkOf};
+ghost use Rattle.scr.specs.Answers.{answerSays, verdictSays, countSays, countOf};
+ghost use Rattle.scr.specs.Promises.{Demand2, StepsExactly};
 
 // ---- answers
 
 // An input event: a monitored variable and its new value.
 pub struct Input {
-    pub variable: u32,
-    pub value: u32,
+    pub variable: usize,
+    pub value: Value,
 }
 
 // The cycle shown: a variable and the number of moves back to it.
@@ -90,6 +94,19 @@ pub enum Answer {
     Refused(Refusal),
 }
 
+// What a pass carries: the states and the steps tried, and the assertions.
+pub struct Counts {
+    pub states: u32,
+    pub steps: u64,
+    pub assertions: usize,
+}
+
+// A pass, or the refusal.
+pub enum Verdict {
+    Pass(Counts),
+    Refused(Refusal),
+}
+
 // The number of values written, or the refusal.
 pub enum Count {
     Written(usize),
@@ -105,11 +122,25 @@ pub fn start(words: &[u32]) -> Answer
     let mut places = [0usize; 32];
     let mut weights = [0u32; 32];
     let mut order = [0usize; 32];
-    let r = read_set(words, &mut places, &mut weights, &mut order);
-    match r {
-        SetRead::Refused(k, x) => Answer::Refused(refusals::reading(k, x)),
-        SetRead::Cycle(v, m) => Answer::Refused(refusals::cycle(v, m)),
-        SetRead::Set(n, _, _) => Answer::State(initial_state(words, &places, &weights, n)),
+    let o = open(words, &mut places, &mut weights, &mut order);
+    match o {
+        Opened::Refused(q) => Answer::Refused(q),
+        Opened::Set(n, _, _) => Answer::State(initial_state(words, &places, &weights, n)),
+    }
+}
+
+// The word that a set may be loaded: all typed states and all typed steps are tried, and every assertion.
+pub fn check(words: &[u32]) -> Verdict
+    ensures { λ r. ⌜ verdictSays r ≡ checkOf (now (words .entry)) ⌝ }
+    ensures { λ r. ⌜ Demand2 (now (words .entry)) r ⌝ }
+{
+    let mut places = [0usize; 32];
+    let mut weights = [0u32; 32];
+    let mut order = [0usize; 32];
+    let o = open(words, &mut places, &mut weights, &mut order);
+    match o {
+        Opened::Refused(q) => Verdict::Refused(q),
+        Opened::Set(n, a, c) => verdict(words, &places, &weights, &order[0..n], n, a, c),
     }
 }
 
@@ -122,11 +153,10 @@ pub fn step(words: &[u32], state: u32, event: u32) -> Answer
     let mut places = [0usize; 32];
     let mut weights = [0u32; 32];
     let mut order = [0usize; 32];
-    let r = read_set(words, &mut places, &mut weights, &mut order);
-    match r {
-        SetRead::Refused(k, x) => Answer::Refused(refusals::reading(k, x)),
-        SetRead::Cycle(v, m) => Answer::Refused(refusals::cycle(v, m)),
-        SetRead::Set(n, _, c) => calls::step(
+    let o = open(words, &mut places, &mut weights, &mut order);
+    match o {
+        Opened::Refused(q) => Answer::Refused(q),
+        Opened::Set(n, _, c) => calls::step(
             words,
             &places,
             &weights,
@@ -147,11 +177,10 @@ pub fn values(words: &[u32], state: u32, out: &mut [Value]) -> Count
     let mut places = [0usize; 32];
     let mut weights = [0u32; 32];
     let mut order = [0usize; 32];
-    let r = read_set(words, &mut places, &mut weights, &mut order);
-    match r {
-        SetRead::Refused(k, x) => Count::Refused(refusals::reading(k, x)),
-        SetRead::Cycle(v, m) => Count::Refused(refusals::cycle(v, m)),
-        SetRead::Set(n, _, c) => calls::values(
+    let o = open(words, &mut places, &mut weights, &mut order);
+    match o {
+        Opened::Refused(q) => Count::Refused(q),
+        Opened::Set(n, _, c) => calls::values(
             words,
             &places,
             &weights,

@@ -1,19 +1,23 @@
 // Making the refusals: each function's promise is document 01's number and what is carried.
 use crate::Answer;
+use crate::Broken;
 use crate::Cycle;
 use crate::Gap;
 use crate::Input;
 use crate::Overlap;
 use crate::Refusal;
 use crate::StepOverlap;
+use checker::Fault;
+use checker::Note;
 use simulator::Stepped;
-use word::value;
+use word::given;
 use word::variable;
 ghost use mathlib.Core.Path.{_≡_};
 ghost use mathlib.Core.List.{List, [], _∷_};
 ghost use Prim.Native.Nat.{ℕ, _≤_};
 ghost use Rattle.meaning.specs.Steps.{inputOf};
 ghost use Rattle.simulator.specs.StepIndex.{steppedSays};
+ghost use Rattle.checker.specs.Sweeps.{faultIs};
 ghost use Rattle.scr.specs.Answers.{refusalSays, answerSays};
 
 // Refusals 1 to 8 carry one number each.
@@ -72,8 +76,8 @@ pub fn step_overlap(state: u32, w: u32, v: usize, first: usize, second: usize) -
     ensures { λ r. ⌜ refusalSays r ≡ (12, state ∷ inputOf w .variable ∷ inputOf w .value ∷ v ∷ first ∷ second ∷ []) ⌝ }
 {
     let input = Input {
-        variable: variable(w),
-        value: value(w),
+        variable: variable(w) as usize,
+        value: given(w),
     };
     let o = StepOverlap {
         state: state,
@@ -96,4 +100,44 @@ pub fn stepped(state: u32, w: u32, r: Stepped) -> Answer
         Stepped::Overlap(side, v, i, j) => Answer::Refused(overlap(side, state, v, i, j)),
         Stepped::StepOverlap(v, i, j) => Answer::Refused(step_overlap(state, w, v, i, j)),
     }
+}
+
+// A gap or an overlap that check met.
+pub fn fault(f: Fault) -> Refusal
+    ensures { λ r. ⌜ refusalSays r ≡ faultIs f ⌝ }
+{
+    match f {
+        Fault::Gap(side, s, v) => gap(side, s, v),
+        Fault::Overlap(side, s, v, i, j) => overlap(side, s, v, i, j),
+        Fault::StepOverlap(s, u, k, v, i, j) => {
+            let input = Input {
+                variable: u,
+                value: k,
+            };
+            let o = StepOverlap {
+                state: s,
+                input: input,
+                variable: v,
+                first: i,
+                second: j,
+            };
+            Refusal::StepOverlap(o)
+        }
+    }
+}
+
+// The assertion that check noted as broken, with its first step.
+pub fn broken(x: Note) -> Refusal
+    ensures { λ r. ⌜ refusalSays r ≡ (14, x .bound ∷ x .state ∷ x .variable ∷ x .value ∷ []) ⌝ }
+{
+    let input = Input {
+        variable: x.variable,
+        value: x.value,
+    };
+    let b = Broken {
+        assertion: x.bound,
+        state: x.state,
+        input: input,
+    };
+    Refusal::Broken(b)
 }

@@ -6,6 +6,7 @@ use crate::text::put_values;
 use crate::text::put_words;
 use scr::Answer;
 use scr::Count;
+use scr::Verdict;
 use word::Value;
 
 fn put_answer(answer: Answer, out: &mut [u8]) -> usize {
@@ -19,6 +20,13 @@ fn put_count(count: Count, out: &mut [u8]) -> usize {
     match count {
         Count::Written(n) => put_line(out, 0, b"VALUES", fields::one(n as u64)),
         Count::Refused(r) => put_line(out, 0, b"REFUSE", fields::refusal(r)),
+    }
+}
+
+fn put_verdict(verdict: Verdict, out: &mut [u8]) -> usize {
+    match verdict {
+        Verdict::Pass(c) => put_line(out, 0, b"PASS", fields::counts(c)),
+        Verdict::Refused(r) => put_line(out, 0, b"REFUSE", fields::refusal(r)),
     }
 }
 
@@ -48,4 +56,8 @@ pub fn rows(set: &[u32], variable: u32, out: &mut [u8]) -> usize {
     let part = scr::rows(set, variable);
     let on = put_line(out, 0, b"ROWS", fields::one(part.len() as u64));
     put_words(out, on, part)
+}
+
+pub fn check(set: &[u32], out: &mut [u8]) -> usize {
+    put_verdict(scr::check(set), out)
 }

@@ -1,5 +1,6 @@
 // The numbers of a line.
 use scr::Broken;
+use scr::Counts;
 use scr::Cycle;
 use scr::Gap;
 use scr::Overlap;
@@ -23,6 +24,16 @@ pub fn two(a: u64, b: u64) -> Fields {
     Fields {
         numbers: [a, b, 0, 0, 0, 0, 0],
         count: 2,
+    }
+}
+
+// What a pass carries.
+pub fn counts(c: Counts) -> Fields {
+    let states = c.states as u64;
+    let assertions = c.assertions as u64;
+    Fields {
+        numbers: [states, c.steps, assertions, 0, 0, 0, 0],
+        count: 3,
     }
 }
 

@@ -2,13 +2,13 @@
 //
 // The input is words of 32 bits, lowest byte first; what is missing counts as zeros:
 //
-//     call   1 start, 2 step, 4 values, 5 rows; 3 and 6 are kept for run and check
+//     call   1 start, 2 step, 4 values, 5 rows, 6 check; 3 is kept for run
 //     n      the number of words of the set, 5,000 counting for every greater one
 //     set    n words
 //     then   step: state, event; values: state, length of the lent list, at most 300; rows: variable
 //
-// The output is a line STATE s, VALUES n, ROWS n or REFUSE number carried.., then for values a line with the whole lent list, whose elements
-// are 238 before the call, and for rows a line with the words of the part. Another call prints nothing.
+// The output is a line STATE s, VALUES n, ROWS n, PASS states steps assertions or REFUSE number carried.., then for values a line with the whole
+// lent list, whose elements are 238 before the call, and for rows a line with the words of the part. Another call prints nothing.
 mod calls; // each call and its lines
 mod fields; // the numbers of a line
 mod input; // bytes to words
@@ -45,7 +45,7 @@ fn probe(words: &[u32], out: &mut [u8]) -> usize {
         // 3: run comes here. Its events are all words left, so it needs the number of words read too.
         4 => calls::values(set, first, second as usize, out),
         5 => calls::rows(set, first, out),
-        // 6: check comes here.
+        6 => calls::check(set, out),
         _ => 0,
     }
 }

@@ -120,17 +120,17 @@ module _ (ws : List ℕ) (z : TableSet) (n a : ℕ) (ps us : List ℕ) (ix : Ind
       let l : v < n = rw (← count-is ws z n a ps us ix wf weights) (ordered-below z v m) in
       rw (digit-means ws z n a ps us ix wf weights s v l) (in-source ws (variablesTo ws n) s e b (digit z s v) v (source-at ix v))))
 
-  pub after-means : (s w : ℕ) (b : Values)
-      → walkSays 1 s (inputOf w) (stepWalk ws ps b (W.variable w) (W.value w) (order z) b) ≡ valuesAfter z s (inputOf w) b
-  unfolding stepWalk valuesAfter givenAfter altered inputOf
-  after-means s w b =
-      walk-settles 1 s (inputOf w) _ (order z) _
-      ∙ settle-same _ _ (order z) b (λ c v m. after-source ws (variablesTo ws n) s (inputOf w) b c v (source-at ix v))
+  pub after-means : (s : ℕ) (e : Input) (b : Values)
+      → walkSays 1 s e (stepWalk ws ps b (e .variable) (e .value) (order z) b) ≡ valuesAfter z s e b
+  unfolding stepWalk valuesAfter givenAfter altered
+  after-means s e b =
+      walk-settles 1 s e _ (order z) _
+      ∙ settle-same _ _ (order z) b (λ c v m. after-source ws (variablesTo ws n) s e b c v (source-at ix v))
 
   -- the step over the index is the meaning's
   pub step-means : noCycle z ≡ ok tt → stateCount z ≤ Max.max-states → (i s w : ℕ) → s < stateCount z
       → stepIndex ws ps us (order z) n i s w ≡ stepAt z i s w
-  unfolding stepIndex stepAt afterIndex
+  unfolding stepIndex stepAt afterIndex inputOf
   step-means acyclic few i s w l =
       rw (enabled-means ws z n a ps us ix wf weights s w, values-means s (inputOf w))
       (go (enabledWord z s w) refl (valuesIn z s) refl)
@@ -147,7 +147,7 @@ module _ (ws : List ℕ) (z : TableSet) (n a : ℕ) (ps us : List ℕ) (ix : Ind
       go false e m em = refl
       go true e (refuse k xs) em = refl
       go true e (ok b) em =
-          rw (after-means s w b)
+          rw (after-means s (inputOf w) b)
           (let h = small-same (valuesAfter z s (inputOf w) b) (number z) (λ t q. typed t (rw (e, em) q)) in
           same (valuesAfter z s (inputOf w) b) ∙ h)
         where

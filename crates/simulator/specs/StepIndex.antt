@@ -30,3 +30,7 @@ stepIndex ws ps us os n i s w =
     demand (enabledAt ws ps us n s w) 16 (i ∷ []) >>= λ _.
     walkSays 0 s (inputOf w) (stateWalk ws ps us s os (listOf (digitAt ws ps us s) n)) >>= λ a.
     afterIndex ws ps us os n s w a
+
+-- the values of state s, or its first gap or overlap
+unfoldable pub examined : List ℕ → List ℕ → List ℕ → List ℕ → ℕ → ℕ → Outcome Values
+examined ws ps us os n s = walkSays 0 s (inputOf 0) (stateWalk ws ps us s os (listOf (digitAt ws ps us s) n))

@@ -14,6 +14,8 @@ pub const MAX_ROWS: usize = 64;
 
 pub const MAX_DEPTH: usize = 16;
 
+pub const MAX_ASSERTIONS: usize = 32;
+
 // The `width` bits of w from bit `low` up.
 fn bits(w: u32, low: u32, width: u32) -> u32
     requires { ⌜ (low < 32) × (width < 32) ⌝ }

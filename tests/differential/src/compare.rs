@@ -1,7 +1,6 @@
 //! The comparison.
 
 use crate::counts::Counts;
-use crate::inputs::nth_input;
 use crate::program::printed;
 use oracle::probe;
 use std::fmt;
@@ -20,18 +19,17 @@ pub struct Comparison {
 /// An input on which the two outputs differ.
 #[derive(Clone, Debug)]
 pub struct Difference {
-    pub index: u64,
+    pub index: usize,
     pub input: Vec<u8>,
     pub oracle: String,
     /// The output, or why there is none.
     pub program: Result<Vec<u8>, String>,
 }
 
-/// Compares the program with the oracle on the first inputs of a seed.
-pub fn compare(program: &Path, seed: u64, count: u64) -> Comparison {
+/// Compares the program with the oracle on a series of inputs.
+pub fn compare(program: &Path, inputs: impl Iterator<Item = Vec<u8>>) -> Comparison {
     let mut comparison = Comparison::default();
-    for index in 0..count {
-        let input = nth_input(seed, index);
+    for (index, input) in inputs.enumerate() {
         let expected = probe(&input);
         let got = printed(program, &input);
         comparison.inputs += 1;

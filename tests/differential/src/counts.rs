@@ -91,16 +91,16 @@ fn call_of(input: &[u8]) -> u32 {
     0
 }
 
+/// The calls by number, from 1 on.
+const NAMES: [&str; 6] = ["start", "step", "run", "values", "rows", "check"];
+
 fn call_name(call: u32) -> &'static str {
-    match call {
-        probe::START => "start",
-        probe::STEP => "step",
-        probe::RUN => "run",
-        probe::VALUES => "values",
-        probe::ROWS => "rows",
-        probe::CHECK => "check",
-        _ => "no call",
-    }
+    call.checked_sub(1).and_then(|place| NAMES.get(place as usize)).unwrap_or(&"no call")
+}
+
+/// The number of a call, by its name.
+pub fn call_number(name: &str) -> Option<u32> {
+    NAMES.iter().position(|&known| known == name).map(|place| place as u32 + 1)
 }
 
 #[cfg(test)]
@@ -118,6 +118,12 @@ mod tests {
         assert_eq!(kind("REFUSE 9 3 1\n"), "REFUSE 9");
         assert_eq!(kind("REFUSE 10 1 5 3\n"), "REFUSE 10 side 1");
         assert_eq!(kind("REFUSE 11 0 4 3 0 3\n238\n"), "REFUSE 11 side 0");
+    }
+
+    #[test]
+    fn names_of_calls() {
+        assert_eq!([call_name(probe::START), call_name(probe::CHECK), call_name(0)], ["start", "check", "no call"]);
+        assert_eq!([call_number("run"), call_number("no call")], [Some(probe::RUN), None]);
     }
 
     #[test]

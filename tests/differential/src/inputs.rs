@@ -14,7 +14,7 @@ const CALLS: &[(u32, usize)] = &[
     // (probe::RUN, 50),
     (probe::VALUES, 25),
     (probe::ROWS, 15),
-    // (probe::CHECK, 50),
+    (probe::CHECK, 50),
 ];
 
 /// The probe's own bounds on lists.
@@ -23,13 +23,23 @@ const LENGTHS: Lengths = Lengths { events: probe::MOST_EVENTS, trace: probe::MOS
 /// The input at a place in the series of a seed.
 pub fn nth_input(seed: u64, index: u64) -> Vec<u8> {
     let mut random = Random::of_item(seed, index);
-    let words = set(&mut random);
-    let call = call(&mut random, &words);
-    let input = probe_input(&words, &call);
+    let number = call_number(&mut random);
+    let input = input(&mut random, number);
     if random.chance(95) {
         return input;
     }
     other_layout(&mut random, input)
+}
+
+/// The same for one call alone, every input laid out as the probe asks.
+pub fn nth_input_of(number: u32, seed: u64, index: u64) -> Vec<u8> {
+    input(&mut Random::of_item(seed, index), number)
+}
+
+fn input(random: &mut Random, number: u32) -> Vec<u8> {
+    let words = if number == probe::CHECK { generate::checked_set(random) } else { set(random) };
+    let call = call(random, number, &words);
+    probe_input(&words, &call)
 }
 
 /// Sets of every kind, then more of those that read, since only on them a state is looked at, and of those with a gap or
@@ -45,8 +55,8 @@ fn set(random: &mut Random) -> Vec<u32> {
     }
 }
 
-fn call(random: &mut Random, words: &[u32]) -> Call {
-    match call_number(random) {
+fn call(random: &mut Random, number: u32, words: &[u32]) -> Call {
+    match number {
         probe::START => Call::Start,
         probe::STEP => calls::step_call(random, words),
         probe::RUN => calls::run_call(random, words, LENGTHS),
@@ -112,6 +122,13 @@ mod tests {
         let inputs: Vec<Vec<u8>> = (0..50).map(|index| nth_input(1, index)).collect();
         assert_eq!(inputs, (0..50).map(|index| nth_input(1, index)).collect::<Vec<_>>());
         assert_ne!(inputs, (0..50).map(|index| nth_input(2, index)).collect::<Vec<_>>());
+    }
+
+    #[test]
+    fn one_call_alone() {
+        for number in probe::START..=probe::CHECK {
+            assert!((0..50).all(|index| nth_input_of(number, 1, index)[..4] == number.to_le_bytes()));
+        }
     }
 
     #[test]

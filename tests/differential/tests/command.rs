@@ -20,6 +20,14 @@ fn a_program_that_prints_nothing_differs() {
 }
 
 #[test]
+fn one_call_alone() {
+    let output = differential(&["/bin/true", "1", "20", "check"]);
+    assert_eq!(output.status.code(), Some(1));
+    let printed = printed(&output);
+    assert!(printed.contains("check                 20 (PASS: "), "{printed}");
+}
+
+#[test]
 fn a_program_that_fails_or_is_not_there_differs() {
     for program in ["/bin/false", "/no/such/program"] {
         assert_eq!(differential(&[program, "1", "3"]).status.code(), Some(1));
@@ -28,7 +36,8 @@ fn a_program_that_fails_or_is_not_there_differs() {
 
 #[test]
 fn arguments_that_make_no_comparison() {
-    for arguments in [&[][..], &["/bin/true", "1"], &["/bin/true", "x", "1"]] {
+    let wrong = [&[][..], &["/bin/true", "1"], &["/bin/true", "x", "1"], &["/bin/true", "1", "1", "chuck"]];
+    for arguments in wrong {
         assert_eq!(differential(arguments).status.code(), Some(2));
     }
 }

@@ -12,7 +12,10 @@ pub mod near;
 pub mod program;
 pub mod set_faults;
 pub mod shape;
+pub mod single;
 pub mod small;
+pub mod telling;
+pub mod traits;
 pub mod wild;
 pub mod word_faults;
 
@@ -81,6 +84,16 @@ pub fn reading_set(random: &mut Random) -> Vec<u32> {
             let number = random.between(10, 14) as u32;
             aimed::aimed_at(random, number)
         }
+    }
+}
+
+/// Any set, and more of those for which the order of the search matters.
+pub fn checked_set(random: &mut Random) -> Vec<u32> {
+    match random.below(100) {
+        0..=49 => set(random),
+        50..=79 => telling::any(random),
+        80..=94 => telling::faulty(random),
+        _ => write::sheet(&lawful::middle_sheet(random)),
     }
 }
 

@@ -12,23 +12,23 @@ pub const FALSE: u32 = word::CONSTANT << 28;
 pub const TRUE: u32 = word::CONSTANT << 28 | 1;
 pub const ASSERTION: u32 = word::ASSERTION << 28 | 1 << 24;
 
-pub fn variable(class: u32, size: u32, initial: u32) -> u32 {
+pub const fn variable(class: u32, size: u32, initial: u32) -> u32 {
     word::VARIABLE << 28 | class << 24 | size << 12 | initial
 }
 
-pub fn table(table_type: u32, variable: u32, class_read: u32) -> u32 {
+pub const fn table(table_type: u32, variable: u32, class_read: u32) -> u32 {
     word::TABLE << 28 | table_type << 24 | variable << 16 | class_read << 8
 }
 
-pub fn row(mode: u32, value: u32) -> u32 {
+pub const fn row(mode: u32, value: u32) -> u32 {
     word::ROW << 28 | mode << 20 | value
 }
 
-pub fn test(variable: u32, test: u32, value: u32) -> u32 {
+pub const fn test(variable: u32, test: u32, value: u32) -> u32 {
     word::TEST << 28 | variable << 20 | test << 16 | value
 }
 
-pub fn equals(variable: u32, value: u32) -> u32 {
+pub const fn equals(variable: u32, value: u32) -> u32 {
     test(variable, 0, value)
 }
 

@@ -1,6 +1,6 @@
 //! The check in two sweeps agrees with the plain one, and reading with writing.
 
-use oracle::generate::{lawful, nth_set, wild};
+use oracle::generate::{checked_set, lawful, nth_set, wild};
 use oracle::parse::parse;
 use oracle::random::Random;
 use oracle::{check, check_fast, write};
@@ -9,6 +9,14 @@ use oracle::{check, check_fast, write};
 fn both_checks_agree() {
     for index in 0..6000 {
         let words = nth_set(2024, index);
+        assert_eq!(check_fast(&words), check(&words), "set {index}: {words:x?}");
+    }
+}
+
+#[test]
+fn both_checks_agree_where_the_order_matters() {
+    for index in 0..2000 {
+        let words = checked_set(&mut Random::of_item(2025, index));
         assert_eq!(check_fast(&words), check(&words), "set {index}: {words:x?}");
     }
 }

@@ -35,6 +35,7 @@ fn program_and_probe_from_standard_input() {
     assert_eq!(printed(ORACLE, &["program"], &input), "PASS 12 24 1\n0 0 1 1\n1 1 1 7\n2 0 0 10\n");
     let input = to_bytes(&[&[6, 29], &SET_A[..]].concat());
     assert_eq!(printed(ORACLE, &["probe"], &input), "PASS 12 24 1\n");
+    assert_eq!(printed(ORACLE, &["check-fast"], &input), "PASS 12 24 1\n");
 }
 
 #[test]

@@ -1,103 +1,82 @@
-use Rattle.scr.proofs.Entering.{reading-low, reading-high, index-few, order-room, values-refused, kept-refused, values-cycle, kept-cycle, values-set, written-set}
+use Rattle.scr.proofs.Entering.{index-few, order-room, values-refused, kept-refused, values-set, written-set}
 use borrow.Author.Needs.{needs}
 use Rattle.scr.proofs.values.Statement.{statement}
 use Rattle.scr.proofs.values.Tie as tie
 use Rattle.scr.proofs.values.Reads as reads
 use Rattle.scr.proofs.values.Lts as lts
 use Rattle.scr.proofs.calls.values.Reads as values-reads
-use Rattle.scr.proofs.refusals.cycle.Reads as cycle-reads
-use Rattle.scr.proofs.refusals.reading.Reads as reading-reads
-use Rattle.set.proofs.read_set.Reads as read-set-reads
+use Rattle.scr.proofs.opening.open.Reads as open-reads
 
--- src/lib.rt:140:29
-slice-aggregate-read-set : tie.Need-slice-aggregate-read-set
-slice-aggregate-read-set c = search needs
+-- src/lib.rt:149:25
+slice-aggregate-open : tie.Need-slice-aggregate-open
+slice-aggregate-open c = search needs
 
--- src/lib.rt:140:42
-slice-aggregate-read-set-2 : tie.Need-slice-aggregate-read-set-2
-slice-aggregate-read-set-2 c = search needs
+-- src/lib.rt:149:38
+slice-aggregate-open-2 : tie.Need-slice-aggregate-open-2
+slice-aggregate-open-2 c = search needs
 
--- src/lib.rt:140:56
-slice-aggregate-read-set-3 : tie.Need-slice-aggregate-read-set-3
-slice-aggregate-read-set-3 c = search needs
+-- src/lib.rt:149:52
+slice-aggregate-open-3 : tie.Need-slice-aggregate-open-3
+slice-aggregate-open-3 c = search needs
 
--- src/lib.rt:140:9
-read-set-requires : tie.Need-read-set-requires
-read-set-requires c κs = search needs
+-- src/lib.rt:149:9
+open-requires : tie.Need-open-requires
+open-requires c κs = search needs
 
--- src/lib.rt:142:26
-enum-known-r : tie.Need-enum-known-r
-enum-known-r c = search needs
+-- src/lib.rt:151:25
+enum-known-o : tie.Need-enum-known-o
+enum-known-o c = search needs
 
--- src/lib.rt:142:50
-reading-requires : tie.Need-reading-requires
-reading-requires c κs = (search reading-low, search reading-high)
+-- src/lib.rt:152:21
+enum-known-o-2 : tie.Need-enum-known-o-2
+enum-known-o-2 c = search needs
 
--- src/lib.rt:143:24
-enum-known-r-2 : tie.Need-enum-known-r-2
-enum-known-r-2 c = search needs
-
--- src/lib.rt:143:48
-cycle-requires : tie.Need-cycle-requires
-cycle-requires c κs = search needs
-
--- src/lib.rt:144:22
-enum-known-r-3 : tie.Need-enum-known-r-3
-enum-known-r-3 c = search needs
-
--- src/lib.rt:144:55
+-- src/lib.rt:154:13
 slice-aggregate-values : tie.Need-slice-aggregate-values
 slice-aggregate-values c = search needs
 
--- src/lib.rt:144:64
+-- src/lib.rt:155:13
 slice-aggregate-values-2 : tie.Need-slice-aggregate-values-2
 slice-aggregate-values-2 c = search needs
 
--- src/lib.rt:144:74
+-- src/lib.rt:156:13
 sub-values : tie.Need-sub-values
 sub-values c = search needs
 
--- src/lib.rt:144:74
+-- src/lib.rt:156:13
 part-values-start : tie.Need-part-values-start
 part-values-start c = search needs
 
--- src/lib.rt:144:74
+-- src/lib.rt:156:13
 part-values-end : tie.Need-part-values-end
 part-values-end c = search order-room
 
--- src/lib.rt:144:34
+-- src/lib.rt:152:33
 values-requires : tie.Need-values-requires
 values-requires c κs = search index-few
 
--- src/lib.rt:133:1
+-- src/lib.rt:142:1
 returns : tie.Need-returns
 returns c = (search values-refused, search kept-refused)
 
--- src/lib.rt:133:1
-returns-2 : tie.Need-returns-2
-returns-2 c = (search values-cycle, search kept-cycle)
-
--- src/lib.rt:133:1
+-- src/lib.rt:142:1
 same-length : tie.Need-same-length
 same-length c = search needs
 
--- src/lib.rt:133:1
-returns-3 : tie.Need-returns-3
-returns-3 c = (search values-set, search written-set)
+-- src/lib.rt:142:1
+returns-2 : tie.Need-returns-2
+returns-2 c = (search values-set, search written-set)
 
 pub values-spec : {M : Type 1} → statement M
 values-spec =
     tie.close
     (tie.spec
-    slice-aggregate-read-set
-    slice-aggregate-read-set-2
-    slice-aggregate-read-set-3
-    read-set-requires
-    enum-known-r
-    reading-requires
-    enum-known-r-2
-    cycle-requires
-    enum-known-r-3
+    slice-aggregate-open
+    slice-aggregate-open-2
+    slice-aggregate-open-3
+    open-requires
+    enum-known-o
+    enum-known-o-2
     slice-aggregate-values
     slice-aggregate-values-2
     sub-values
@@ -105,6 +84,5 @@ values-spec =
     part-values-end
     values-requires
     returns
-    returns-2
     same-length
-    returns-3)
+    returns-2)

@@ -7,6 +7,7 @@ use std::path::Path;
 use std::process::ExitCode;
 
 const USAGE: &str = "usage: oracle probe < INPUT
+       oracle check-fast < INPUT
        oracle program < INPUT
        oracle host-check FILE
        oracle host-step FILE STATE EVENT
@@ -34,6 +35,7 @@ fn main() -> ExitCode {
 fn answer(arguments: &[&str]) -> Option<io::Result<Vec<u8>>> {
     Some(match arguments {
         ["probe"] => input().map(|bytes| oracle::probe(&bytes).into_bytes()),
+        ["check-fast"] => input().map(|bytes| oracle::probe::probe_check_fast(&bytes).into_bytes()),
         ["program"] => input().map(|bytes| oracle::program(&bytes)),
         ["host-check", file] => std::fs::read(file).map(|bytes| number_line(oracle::host_check(&bytes))),
         ["host-step", file, state, event] => {

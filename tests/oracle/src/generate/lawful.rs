@@ -13,8 +13,18 @@ const MODES_NAMED: u32 = 10;
 
 pub fn sheet(random: &mut Random) -> Sheet {
     let shape = Shape::new(random);
+    of_shape(random, &shape)
+}
+
+/// One with several inputs and some hundred states.
+pub fn middle_sheet(random: &mut Random) -> Sheet {
+    let shape = Shape::middle(random);
+    of_shape(random, &shape)
+}
+
+fn of_shape(random: &mut Random, shape: &Shape) -> Sheet {
     let tabled = (0..shape.count()).filter(|&variable| shape.roles[variable] != Role::Input);
-    let mut tables: Vec<Table> = tabled.map(|variable| table(random, &shape, variable)).collect();
+    let mut tables: Vec<Table> = tabled.map(|variable| table(random, shape, variable)).collect();
     if random.chance(70) {
         random.shuffle(&mut tables);
     }

@@ -55,6 +55,24 @@ pub fn overlapping(random: &mut Random, mut sheet: Sheet) -> Sheet {
     sheet
 }
 
+/// A row of every table doubled: two tables may then be at fault at once.
+pub fn all_doubled(random: &mut Random, mut sheet: Sheet) -> Sheet {
+    for table in &mut sheet.tables {
+        match &mut table.rows {
+            Rows::Mode(rows) | Rows::Event(rows) => double(random, rows),
+            Rows::Condition(rows) => double(random, rows),
+        }
+    }
+    sheet
+}
+
+fn double<Formula: Clone>(random: &mut Random, rows: &mut Vec<Row<Formula>>) {
+    if rows.len() < limits::ROWS {
+        let twin = random.pick(rows).clone();
+        rows.insert(random.below(rows.len() + 1), twin);
+    }
+}
+
 fn alter<Formula: Clone>(
     random: &mut Random,
     rows: &mut Vec<Row<Formula>>,

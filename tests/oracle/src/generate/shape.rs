@@ -34,8 +34,20 @@ impl Shape {
     pub fn new(random: &mut Random) -> Shape {
         let plain = random.chance(25);
         let most_states = if plain { 100 } else { most_states(random) };
+        let roles = if plain { plain_roles(random) } else { wanted_roles(random) };
+        Shape::of_roles(random, &roles, plain, most_states)
+    }
+
+    /// Several inputs and some hundred states, so that the order of the search has something to show.
+    pub fn middle(random: &mut Random) -> Shape {
+        let most_states = random.between(100, 700) as u64;
+        let roles = middle_roles(random);
+        Shape::of_roles(random, &roles, false, most_states)
+    }
+
+    fn of_roles(random: &mut Random, roles: &[Role], plain: bool, most_states: u64) -> Shape {
         let mut shape = Shape { variables: vec![], roles: vec![], rank: vec![], shared: vec![], plain };
-        for wanted in if plain { plain_roles(random) } else { wanted_roles(random) } {
+        for &wanted in roles {
             shape.add(random, wanted, most_states);
         }
         shape.rank = (0..shape.count()).collect();
@@ -147,6 +159,15 @@ fn wanted_roles(random: &mut Random) -> Vec<Role> {
 fn plain_roles(random: &mut Random) -> Vec<Role> {
     let mut roles = vec![Role::Input, Role::ModeTable, Role::EventTable];
     roles.extend([Role::Input, Role::ConditionTable].iter().filter(|_| random.chance(50)));
+    random.shuffle(&mut roles);
+    roles
+}
+
+/// Two inputs at least and a table of each type at least.
+fn middle_roles(random: &mut Random) -> Vec<Role> {
+    use Role::{ConditionTable, EventTable, Input, ModeTable};
+    let mut roles = vec![Input, Input, ModeTable, EventTable, ConditionTable];
+    roles.extend([Input, Input, EventTable, ConditionTable, ConditionTable].iter().filter(|_| random.chance(50)));
     random.shuffle(&mut roles);
     roles
 }

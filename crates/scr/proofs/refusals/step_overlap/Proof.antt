@@ -4,20 +4,24 @@ use Rattle.scr.proofs.refusals.step_overlap.Statement.{statement}
 use Rattle.scr.proofs.refusals.step_overlap.Tie as tie
 use Rattle.scr.proofs.refusals.step_overlap.Reads as reads
 use Rattle.scr.proofs.refusals.step_overlap.Lts as lts
-use Rattle.word.proofs.value.Reads as value-reads
+use Rattle.word.proofs.given.Reads as given-reads
 use Rattle.word.proofs.variable.Reads as variable-reads
 
--- src/refusals.rt:61:35
+-- src/refusals.rt:75:19
 variable-requires : tie.Need-variable-requires
 variable-requires c κs = search needs
 
--- src/refusals.rt:61:55
-value-requires : tie.Need-value-requires
-value-requires c κs = search needs
+-- src/refusals.rt:75:19
+cast-t9 : tie.Need-cast-t9
+cast-t9 c = search needs
 
--- src/refusals.rt:58:1
+-- src/refusals.rt:76:16
+given-requires : tie.Need-given-requires
+given-requires c κs = search needs
+
+-- src/refusals.rt:71:1
 returns : tie.Need-returns
 returns c = search overlap-says
 
 pub step-overlap-spec : {M : Type 1} → statement M
-step-overlap-spec = tie.close (tie.spec variable-requires value-requires returns)
+step-overlap-spec = tie.close (tie.spec variable-requires cast-t9 given-requires returns)

@@ -1,0 +1,4 @@
+pub mod Laws
+pub mod Asserted
+pub mod Tracking
+pub mod Means

@@ -1,0 +1,3 @@
+pub mod Assertions
+pub mod Sweeps
+pub mod Checked

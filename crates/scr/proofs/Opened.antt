@@ -1,0 +1,33 @@
+-- Laws of the reading that every entry begins with, one for each way out.
+use mathlib.Core.Path.{_≡_, sym, _∙_}
+use mathlib.Core.List.{List, [], _∷_}
+use Prim.Native.Nat.{ℕ, _≤_}
+use Rattle.set.specs.declared.SetRead as R
+use Rattle.set.specs.declared.SetRead.the-variants as RV
+use Rattle.set.specs.ReadSet.{SetAs}
+use Rattle.scr.specs.declared.Refusal.{Refusal}
+use Rattle.scr.specs.declared.opening.Opened.the-variants as OV
+use Rattle.scr.specs.Answers.{refusalSays}
+use Rattle.scr.specs.Opened.{OpenedAs}
+use Rattle.scr.proofs.Refusing.{refused-says}
+
+module _ (ws ps us os : List ℕ) (r : R.SetRead) (h : SetAs ws r ps us os) where
+  pub reading-low : (k x : ℕ) → r ≡ RV.Refused k x → 1 ≤ k
+  unfolding SetAs
+  reading-low k x e = let p = rw e at h in p .1
+
+  pub reading-high : (k x : ℕ) → r ≡ RV.Refused k x → k ≤ 8
+  unfolding SetAs
+  reading-high k x e = let p = rw e at h in p .2
+
+  pub open-refused : (q : Refusal) (k x : ℕ) → r ≡ RV.Refused k x → refusalSays q ≡ (k, x ∷ []) → OpenedAs ws (OV.Refused q) ps us os
+  unfolding SetAs OpenedAs
+  open-refused q k x e eq = let p = rw e at h in p .0 ∙ sym (refused-says q k (x ∷ []) eq)
+
+  pub open-cycle : (q : Refusal) (v m : ℕ) → r ≡ RV.Cycle v m → refusalSays q ≡ (9, v ∷ m ∷ []) → OpenedAs ws (OV.Refused q) ps us os
+  unfolding SetAs OpenedAs
+  open-cycle q v m e eq = let p = rw e at h in p ∙ sym (refused-says q 9 (v ∷ m ∷ []) eq)
+
+  pub open-set : (n a c : ℕ) → r ≡ RV.Set n a c → OpenedAs ws (OV.Set n a c) ps us os
+  unfolding SetAs OpenedAs
+  open-set n a c e = rw e at h

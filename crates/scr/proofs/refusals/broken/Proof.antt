@@ -1,0 +1,15 @@
+use borrow.Author.Needs.{needs}
+use mathlib.Core.Path.{refl}
+use Rattle.scr.specs.Answers.{refusalSays}
+use Rattle.scr.proofs.refusals.broken.Statement.{statement}
+use Rattle.scr.proofs.refusals.broken.Tie as tie
+use Rattle.scr.proofs.refusals.broken.Reads as reads
+use Rattle.scr.proofs.refusals.broken.Lts as lts
+
+-- src/refusals.rt:130:1
+returns : tie.Need-returns
+unfolding refusalSays
+returns c = refl
+
+pub broken-spec : {M : Type 1} → statement M
+broken-spec = tie.close (tie.spec returns)
