@@ -18,5 +18,6 @@ pub mod Valued
 pub mod Moved
 pub mod Passes
 pub mod Reached
+pub mod Demand3
 pub mod WrongReadings
 pub mod RefusalCases

@@ -7,7 +7,8 @@ use mathlib.Core.List.{List, [], _∷_}
 use Prim.Native.Nat.{ℕ, zero, suc, _+_, _-_, _%_, _≤_, _<_}
 use native.Mathlib.Omega.{arith}
 use native.Mathlib.Nat.{mod-eq-of-lt}
-use lib.Dec.{ltb}
+use lib.Dec.{leb, ltb}
+use lib.Seq.{sets}
 use lib.ListN.{length, getD, take, drop}
 use borrow.Author.Tests.{not-true, not-false}
 use Rattle.meaning.specs.Answers.{Outcome, ok, refuse, _>>=_, demand}
@@ -17,9 +18,10 @@ use Rattle.meaning.specs.Order.{order}
 use Rattle.meaning.specs.States.{Values, stateCount, initialState, readSet}
 use Rattle.meaning.specs.Steps.{inputOf, stepAt, stepOf}
 use Rattle.meaning.specs.Calls.{startOf, valuesOf, lentValues, isTableOf, partFrom, rowsIf, rowsOf}
+use Rattle.meaning.specs.Run.{Ran, runFrom, runReady, ranOf, runOf}
 use Rattle.meaning.specs.Check.{counts, checkStates, checkSteps, checkAssertions, checkSet, checkOf}
 use Rattle.theory.specs.Tests.{ltb-true}
-use Rattle.theory.specs.Found.{ok-not-refuse, ok-same}
+use Rattle.theory.specs.Found.{ok-not-refuse, ok-same, bind-ok, demand-ok}
 use Rattle.theory.specs.WellFormed.{WellFormed}
 use Rattle.theory.specs.WellRead.{read-well-formed, states-few}
 use Rattle.theory.specs.Numbers.{initial-below}
@@ -27,7 +29,8 @@ use Rattle.theory.specs.StepExactly.{step-exactly}
 use Rattle.state.specs.Held.{initialNumber}
 use Rattle.state.proofs.Means.{count-is, initial-number}
 use Rattle.simulator.specs.StepIndex.{stepIndex, examined}
-use Rattle.simulator.proofs.Means.{values-means, step-means}
+use Rattle.simulator.specs.RunIndex.{runIndex}
+use Rattle.simulator.proofs.Means.{values-means, step-means, run-means}
 use Rattle.checker.proofs.Means.{check-means, events-mean}
 use Rattle.part.specs.Part.{startAt, endAt}
 use Rattle.part.proofs.Laws.{part-is, part-none}
@@ -53,6 +56,21 @@ last-bound (ok a) (ok b) (ok c) d f = refl
 last-bound (ok a) (ok b) (refuse k xs) d f = refl
 last-bound (ok a) (refuse k xs) w d f = refl
 last-bound (refuse k xs) y w d f = refl
+
+bound-last : {B : Type 0} (x y w : Outcome (Unit {0})) (o : Outcome B)
+    → (x >>= λ _. y >>= λ _. w >>= λ _. o) ≡ (x >>= (λ _. y >>= λ _. w) >>= λ _. o)
+bound-last (ok a) (ok b) (ok c) o = refl
+bound-last (ok a) (ok b) (refuse k xs) o = refl
+bound-last (ok a) (refuse k xs) w o = refl
+bound-last (refuse k xs) y w o = refl
+
+-- a run that begins, begins at a typed state
+ready-typed : (c s events room : ℕ) → I.readyIn c s events room ≡ ok tt → s < c
+unfolding I.readyIn
+ready-typed c s events room e =
+    let x = bind-ok (demand (leb events 4096) 17 (4097 ∷ [])) _ tt e in
+    let y = bind-ok (demand (leb events room) 17 (events ∷ [])) _ tt (x .2) in
+    ltb-true (demand-ok (ltb s c) 15 (s ∷ []) (y .2))
 
 -- ---- what the index of a set gives
 module _ (ws : List ℕ) (z : TableSet) (n a c : ℕ) (ps us os : List ℕ) (r : ReadSet ws z n a c ps us os) where
@@ -89,6 +107,23 @@ module _ (ws : List ℕ) (z : TableSet) (n a c : ℕ) (ps us os : List ℕ) (r :
         count-is ws z n a ps us (r .typed .indexed) well (r .typed .weights-are),
         values-means ws z n a ps us (r .typed .indexed) well (r .typed .weights-are) s (inputOf 0),
       )
+
+  ready-said : (s events room : ℕ) → runReady ws s events room ≡ (I.readyIn c s events room >>= λ _. ok z)
+  unfolding runReady I.readyIn
+  ready-said s events room =
+      rw (r .reads, r .typed .states-are)
+      (bound-last (demand (leb events 4096) 17 (4097 ∷ [])) (demand (leb events room) 17 (events ∷ [])) (demand (ltb s (stateCount z)) 15 (s ∷ [])) (ok z))
+
+  run-said : (s : ℕ) (es : List ℕ) (room : ℕ) → ranOf ws s es room ≡ I.ranIn ws ps us (take n os) n c s es room
+  unfolding ranOf I.ranIn I.ranWhen
+  run-said s es room = rw (r .order-is) (go (I.readyIn c s (length es) room) refl (ready-said s (length es) room))
+    where
+      go : (m : Outcome (Unit {0})) → I.readyIn c s (length es) room ≡ m → runReady ws s (length es) room ≡ (m >>= λ _. ok z)
+          → ranOf ws s es room ≡ I.ranWhen m (runIndex ws ps us (order z) n 0 s es)
+      go (ok u) em e =
+          let l : s < stateCount z = rw (← r .typed .states-are) (ready-typed c s (length es) room em) in
+          rw (e, ranOf) (sym (run-means ws z n a ps us (r .typed .indexed) well (r .typed .weights-are) (r .acyclic) few 0 s es l))
+      go (refuse k xs) em e = rw (e, ranOf)
 
   verdict-said : checkOf ws ≡ I.verdictIn ws ps us (take n os) n a c
   unfolding checkOf checkSet I.verdictIn counts
@@ -134,6 +169,19 @@ module _ (ws ps us os : List ℕ) (o : O.Opened) (h : OpenedAs ws o ps us os) wh
     unfolding answerSays stepOf
     step-refused s w = refused-first _
 
+    module _ (s : ℕ) (es lent : List ℕ) (place : ℕ) where
+      run-first : ranOf ws s es (length lent - place) ≡ record { done = []; last = refused q }
+      unfolding ranOf runReady OpenedAs refused
+      run-first = let p = rw e at h in rw (p, ranOf)
+
+      pub run-refused : answerSays (A.Refused q) ≡ runOf ws s es lent place .answer
+      unfolding answerSays runOf
+      run-refused = rw run-first
+
+      pub run-kept : lent ≡ runOf ws s es lent place .lent
+      unfolding runOf
+      run-kept = rw run-first
+
     module _ (s room : ℕ) where
       values-first : refused q ≡ valuesOf ws s room
       unfolding valuesOf
@@ -165,6 +213,21 @@ module _ (ws ps us os : List ℕ) (o : O.Opened) (h : OpenedAs ws o ps us os) wh
     step-set s w r er =
         let p = rw e at h in
         (rw part-of-order at er) ∙ sym (step-said ws (p .0) n a c ps us os (p .1) s w)
+
+    module _ (s : ℕ) (es lent : List ℕ) (place : ℕ) where
+      ran-same : ranOf ws s es (length lent - place) ≡ I.ranIn ws ps us (take (n - 0) (drop 0 os)) n c s es (length lent - place)
+      unfolding OpenedAs
+      ran-same = let p = rw e at h in rw part-of-order (run-said ws (p .0) n a c ps us os (p .1) s es (length lent - place))
+
+      pub run-set : (r : Answer) → answerSays r ≡ I.ranIn ws ps us (take (n - 0) (drop 0 os)) n c s es (length lent - place) .last
+          → answerSays r ≡ runOf ws s es lent place .answer
+      unfolding runOf
+      run-set r er = rw ran-same er
+
+      pub run-wrote : (after : List ℕ) → after ≡ sets lent place (I.ranIn ws ps us (take (n - 0) (drop 0 os)) n c s es (length lent - place) .done)
+          → after ≡ runOf ws s es lent place .lent
+      unfolding runOf
+      run-wrote after ea = rw ran-same ea
 
     pub values-set : (s room : ℕ) (r : Count) → countSays r ≡ countOf (I.valuesIn ws ps us (take (n - 0) (drop 0 os)) n c s room)
         → countSays r ≡ countOf (valuesOf ws s room)

@@ -2,4 +2,5 @@ pub mod Refusing
 pub mod Opened
 pub mod Calling
 pub mod Deciding
+pub mod Performing
 pub mod Entering

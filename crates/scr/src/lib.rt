@@ -3,6 +3,7 @@
 mod calls; // what is done once the set has been read
 mod opening; // reading the set
 mod refusals; // making refusals
+mod runs; // a run of a set that reads
 mod verdicts; // the verdict of a set that reads
 
 use crate::opening::Opened;
@@ -17,6 +18,8 @@ ghost use Prim.Native.Nat.{ℕ};
 ghost use lib.ListN.{length};
 ghost use Rattle.meaning.specs.Calls.{startOf, valuesOf, lentValues, rowsOf};
 ghost use Rattle.meaning.specs.Steps.{stepOf};
+ghost use Rattle.meaning.specs.Run.{runOf};
+ghost use Rattle.meaning.specs.Demand3.{Demand3};
 ghost use Rattle.meaning.specs.Check.{checkOf};
 ghost use Rattle.scr.specs.Answers.{answerSays, verdictSays, countSays, countOf};
 ghost use Rattle.scr.specs.Promises.{Demand2, StepsExactly};
@@ -165,6 +168,34 @@ pub fn step(words: &[u32], state: u32, event: u32) -> Answer
             c,
             state,
             event,
+        ),
+    }
+}
+
+// The events in turn from a state on. The state after each event done is written to the lent list from the place on, and the last is given;
+// a refusal keeps what was written.
+pub fn run(words: &[u32], state: u32, events: &[u32], trace: &mut [u32], place: usize) -> Answer
+    ensures { λ r. ⌜ answerSays r ≡ runOf (now (words .entry)) state (now (events .entry)) (now (trace .entry)) place .answer ⌝ }
+    ensures { λ r. ⌜ now (trace .exit) ≡ runOf (now (words .entry)) state (now (events .entry)) (now (trace .entry)) place .lent ⌝ }
+    ensures { λ r. ⌜ Demand3 (now (words .entry)) state (now (events .entry)) (now (trace .entry)) place (answerSays r) (now (trace .exit)) ⌝ }
+{
+    let mut places = [0usize; 32];
+    let mut weights = [0u32; 32];
+    let mut order = [0usize; 32];
+    let o = open(words, &mut places, &mut weights, &mut order);
+    match o {
+        Opened::Refused(q) => Answer::Refused(q),
+        Opened::Set(n, _, c) => runs::run(
+            words,
+            &places,
+            &weights,
+            &order[0..n],
+            n,
+            c,
+            state,
+            events,
+            &mut trace[..],
+            place,
         ),
     }
 }

@@ -38,6 +38,33 @@ pub fn step(set: &[u32], state: u32, event: u32, out: &mut [u8]) -> usize {
     put_answer(scr::step(set, state, event), out)
 }
 
+fn run_into(
+    set: &[u32],
+    state: u32,
+    events: &[u32],
+    lent: &mut [u32],
+    place: usize,
+    out: &mut [u8],
+) -> usize {
+    let answer = scr::run(set, state, events, lent, place);
+    let on = put_answer(answer, out);
+    put_words(out, on, lent)
+}
+
+// The lent list has `room` elements, at most 8,000.
+pub fn run(
+    set: &[u32],
+    state: u32,
+    place: usize,
+    room: usize,
+    events: &[u32],
+    out: &mut [u8],
+) -> usize {
+    let mut lent = [4294967295u32; 8000];
+    let m = least(room, 8000);
+    run_into(set, state, events, &mut lent[0..m], place, out)
+}
+
 fn values_into(set: &[u32], state: u32, lent: &mut [Value], out: &mut [u8]) -> usize {
     let count = scr::values(set, state, lent);
     let on = put_count(count, out);

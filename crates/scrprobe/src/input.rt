@@ -1,4 +1,5 @@
 // The words of the input, lowest byte first. Input cut short counts as zeros.
+use crate::least;
 ghost use Prim.Native.Nat.{_<_};
 
 fn byte_at(bytes: &[u8], at: usize) -> u32
@@ -34,6 +35,15 @@ pub fn fill(bytes: &[u8], words: &mut [u32]) {
     }
 }
 
+// The number of words of so many bytes, the last one perhaps cut short.
+pub fn word_count(bytes: usize) -> usize {
+    if bytes % 4 == 0 {
+        bytes / 4
+    } else {
+        bytes / 4 + 1
+    }
+}
+
 // The n words from a place on; none if there are fewer.
 pub fn words_from(words: &[u32], at: usize, n: usize) -> &[u32] {
     if words.len() < at {
@@ -44,4 +54,12 @@ pub fn words_from(words: &[u32], at: usize, n: usize) -> &[u32] {
         return &words[0..0];
     }
     &rest[0..n]
+}
+
+// The words from a place to an end, at most so many.
+pub fn words_to(words: &[u32], at: usize, end: usize, most: usize) -> &[u32] {
+    if end <= at {
+        return &words[0..0];
+    }
+    words_from(words, at, least(end - at, most))
 }

@@ -2,13 +2,15 @@
 //
 // The input is words of 32 bits, lowest byte first; what is missing counts as zeros:
 //
-//     call   1 start, 2 step, 4 values, 5 rows, 6 check; 3 is kept for run
+//     call   1 start, 2 step, 3 run, 4 values, 5 rows, 6 check
 //     n      the number of words of the set, 5,000 counting for every greater one
 //     set    n words
-//     then   step: state, event; values: state, length of the lent list, at most 300; rows: variable
+//     then   step: state, event; run: state, place, length of the lent list, at most 8,000, and all words left are its events, at most
+//            5,000; values: state, length of the lent list, at most 300; rows: variable
 //
-// The output is a line STATE s, VALUES n, ROWS n, PASS states steps assertions or REFUSE number carried.., then for values a line with the whole
-// lent list, whose elements are 238 before the call, and for rows a line with the words of the part. Another call prints nothing.
+// The output is a line STATE s, VALUES n, ROWS n, PASS states steps assertions or REFUSE number carried.., then for run and values a line with
+// the whole lent list, whose elements are 4294967295 and 238 before the call, and for rows a line with the words of the part. Another
+// call prints nothing.
 mod calls; // each call and its lines
 mod fields; // the numbers of a line
 mod input; // bytes to words
@@ -33,8 +35,8 @@ fn least(a: usize, b: usize) -> usize
     if a < b { a } else { b }
 }
 
-// One call, its effect put into a buffer; the place after it.
-fn probe(words: &[u32], out: &mut [u8]) -> usize {
+// One call, its effect put into a buffer; the place after it. The first `end` words were read, those after them are zeros.
+fn probe(words: &[u32], end: usize, out: &mut [u8]) -> usize {
     let n = least(word_at(words, 1) as usize, 5000);
     let set = input::words_from(words, 2, n);
     let first = word_at(words, n + 2);
@@ -42,7 +44,11 @@ fn probe(words: &[u32], out: &mut [u8]) -> usize {
     match word_at(words, 0) {
         1 => calls::start(set, out),
         2 => calls::step(set, first, second, out),
-        // 3: run comes here. Its events are all words left, so it needs the number of words read too.
+        3 => {
+            let room = word_at(words, n + 4) as usize;
+            let events = input::words_to(words, n + 5, end, 5000);
+            calls::run(set, first, second as usize, room, events, out)
+        }
         4 => calls::values(set, first, second as usize, out),
         5 => calls::rows(set, first, out),
         6 => calls::check(set, out),
@@ -56,6 +62,6 @@ fn main() {
     let mut words = [0u32; WORDS];
     input::fill(&bytes[..n], &mut words);
     let mut out = [0u8; ROOM];
-    let end = probe(&words, &mut out);
+    let end = probe(&words, input::word_count(n), &mut out);
     io::write_all(STDOUT_FILENO, text::front(&out, end));
 }

@@ -35,6 +35,8 @@ use Rattle.simulator.specs.declared.Given.{Given}
 use Rattle.simulator.specs.declared.Given.the-variants as G
 use Rattle.simulator.specs.Walks.{conditionOf, eventOf, conditionGiven, eventGiven, givenInBy, givenIn, givenAfterBy, givenAfter, Walk, done, at, onward, walk, stateWalk, stepWalk, givenSays, settledSays, walkSays}
 use Rattle.simulator.specs.StepIndex.{afterIndex, stepIndex}
+use Rattle.meaning.specs.Run.{Ran, runFrom}
+use Rattle.simulator.specs.RunIndex.{runIndex}
 
 -- ---- what a table gives, as an answer
 condition-says : (side s : ℕ) (e : Input) (v : ℕ) (rs : List (Row Condition)) (h : Hits)
@@ -152,3 +154,18 @@ module _ (ws : List ℕ) (z : TableSet) (n a : ℕ) (ps us : List ℕ) (ix : Ind
           same : (o : Outcome Values) → (o >>= λ c. ok (numberAt ws ps us c n % 4294967296)) ≡ (o >>= λ c. ok (number z c % 4294967296))
           same (ok c) = rw (number-means ws z n a ps us ix wf weights c)
           same (refuse k xs) = refl
+
+  -- the run over the index is the meaning's: every state reached is typed
+  pub run-means : noCycle z ≡ ok tt → stateCount z ≤ Max.max-states → (i s : ℕ) (es : List ℕ) → s < stateCount z
+      → runIndex ws ps us (order z) n i s es ≡ runFrom z i s es
+  unfolding runIndex runFrom
+  run-means acyclic few i s [] l = refl
+  run-means acyclic few i s (w ∷ es) l = go (λ t k. run-means acyclic few (suc i) t es k) (stepAt z i s w) refl
+    where
+      go : ((t : ℕ) → t < stateCount z → runIndex ws ps us (order z) n (suc i) t es ≡ runFrom z (suc i) t es) → (o : Outcome ℕ)
+          → stepAt z i s w ≡ o → runIndex ws ps us (order z) n i s (w ∷ es) ≡ runFrom z i s (w ∷ es)
+      go ih (ok t) e =
+          let c = step-at-exactly z acyclic wf i s w t l .0 e in
+          let k = valuation-typed z acyclic wf t (c .1 .next .new) (c .1 .next .leads .after) in
+          rw (step-means acyclic few i s w l, e, ih t k, runIndex, runFrom)
+      go ih (refuse k xs) e = rw (step-means acyclic few i s w l, e, runIndex, runFrom)

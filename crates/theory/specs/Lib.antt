@@ -22,3 +22,4 @@ pub mod CheckExactly
 pub mod Refusals
 pub mod StepExactly
 pub mod CourseExactly
+pub mod RunExactly

@@ -11,7 +11,7 @@ use oracle::random::Random;
 const CALLS: &[(u32, usize)] = &[
     (probe::START, 10),
     (probe::STEP, 50),
-    // (probe::RUN, 50),
+    (probe::RUN, 50),
     (probe::VALUES, 25),
     (probe::ROWS, 15),
     (probe::CHECK, 50),
