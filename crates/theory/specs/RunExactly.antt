@@ -26,13 +26,13 @@ use Rattle.theory.specs.CheckExactly.{reads-exactly}
 use Rattle.theory.specs.CourseExactly.{every-list-has-one-course, passed-course-in-order, passed-course-ends}
 
 -- ---- a list written from a place on: the elements not written, and those written
-sets-others : (l : List ℕ) (p : ℕ) (vs : List ℕ) (j : ℕ) → (j < p) ⊎ (p + length vs ≤ j) → getD (sets l p vs) j 0 ≡ getD l j 0
+pub sets-others : (l : List ℕ) (p : ℕ) (vs : List ℕ) (j : ℕ) → (j < p) ⊎ (p + length vs ≤ j) → getD (sets l p vs) j 0 ≡ getD l j 0
 sets-others l p [] j h = refl
 sets-others l p (a ∷ vs) j h =
     sets-others (set l p a) (suc p) vs j (elim h [ inl k ↦ inl (omega arith) | inr k ↦ inr (omega arith) ])
     ∙ getD-set-other l p j a 0 (λ e. elim h [ inl k ↦ omega arith | inr k ↦ omega arith ])
 
-sets-written : (l : List ℕ) (p : ℕ) (vs : List ℕ) (i : ℕ) → i < length vs → p + length vs ≤ length l → getD (sets l p vs) (p + i) 0 ≡ getD vs i 0
+pub sets-written : (l : List ℕ) (p : ℕ) (vs : List ℕ) (i : ℕ) → i < length vs → p + length vs ≤ length l → getD (sets l p vs) (p + i) 0 ≡ getD vs i 0
 sets-written l p [] i h r = let o : ⊥ = omega arith in absurd o
 sets-written l p (a ∷ vs) zero h r =
     rw (add-zero p) (sets-others (set l p a) (suc p) vs p (inl (omega arith)) ∙ getD-set-same l p a 0 (omega arith))
@@ -43,12 +43,12 @@ sets-written l p (a ∷ vs) (suc i) h r =
 -- ---- how a run ends, whatever the set
 module _ (z : TableSet) where
   -- a turn that is done, and one that is not
-  turn-done : (i s w : ℕ) (es : List ℕ) (t : ℕ) → stepAt z i s w ≡ ok t
+  pub turn-done : (i s w : ℕ) (es : List ℕ) (t : ℕ) → stepAt z i s w ≡ ok t
       → runFrom z i s (w ∷ es) ≡ record { done = t ∷ runFrom z (suc i) t es .done; last = runFrom z (suc i) t es .last }
   unfolding runFrom
   turn-done i s w es t e = rw (e, runFrom)
 
-  turn-refused : (i s w : ℕ) (es : List ℕ) (n : ℕ) (xs : List ℕ) → stepAt z i s w ≡ refuse n xs
+  pub turn-refused : (i s w : ℕ) (es : List ℕ) (n : ℕ) (xs : List ℕ) → stepAt z i s w ≡ refuse n xs
       → runFrom z i s (w ∷ es) ≡ record { done = []; last = refuse n xs }
   unfolding runFrom
   turn-refused i s w es n xs e = rw (e, runFrom)
