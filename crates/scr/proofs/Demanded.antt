@@ -1,4 +1,4 @@
--- The demands of each entry, from its equations: demand 1 of all, 2 of check, 3 of run.
+-- The demands of each entry, from its equations: demand 1 of all, 2 of check and step, 3 of run.
 use mathlib.Core.Path.{_≡_, refl, sym, ap, _∙_, subst}
 use mathlib.Core.Logic.{_↔_, _⊎_, inl, inr}
 use mathlib.Core.List.{List, [], _∷_}
@@ -15,13 +15,14 @@ use Rattle.meaning.specs.Demand1.{StartRefused, StepRefused, ValuesRefused, Ans
 use Rattle.meaning.specs.Demand3.{Demand3}
 use Rattle.theory.specs.Found.{ok-not-refuse, refuse-same}
 use Rattle.theory.specs.CheckExactly.{check-passes-exactly, check-refuses-exactly}
+use Rattle.theory.specs.StepExactly.{step-exactly}
 use Rattle.theory.specs.RunExactly.{demand-3-holds}
 use Rattle.theory.specs.Demand1Holds.{demand-1}
 use Rattle.scr.specs.declared.Answer.{Answer}
 use Rattle.scr.specs.declared.Verdict.{Verdict}
 use Rattle.scr.specs.declared.Count.{Count}
 use Rattle.scr.specs.Answers.{answerSays, verdictSays, countSays, countOf}
-use Rattle.scr.specs.Promises.{Demand2}
+use Rattle.scr.specs.Promises.{Demand2, StepsExactly}
 
 -- ---- demand 1
 pub start-demand : (ws : List ℕ) (r : Answer) → answerSays r ≡ startOf ws → AnswersOrRefuses (answerSays r) (StartRefused ws)
@@ -78,6 +79,9 @@ demand-2 ws r e = record {
     λ q. e ∙ check-refuses-exactly ws n xs .1 q,
   );
 }
+
+pub steps-exactly : (ws : List ℕ) (s w : ℕ) (r : Answer) → answerSays r ≡ stepOf ws s w → StepsExactly ws s w r
+steps-exactly ws s w r e t = let q = step-exactly ws s w t in (λ x. q .0 (sym e ∙ x), λ x. e ∙ q .1 x)
 
 -- ---- demand 3
 pub demand-3 : (ws : List ℕ) (s : ℕ) (es lent : List ℕ) (place : ℕ) (r : Answer) (after : List ℕ)

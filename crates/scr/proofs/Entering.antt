@@ -1,6 +1,5 @@
 -- Laws of the entries, one for each way out.
 use mathlib.Core.Path.{_≡_, refl, sym, ap, _∙_, subst}
-use mathlib.Core.Logic.{_↔_}
 use mathlib.Core.Bool.{Bool, true, false, not}
 use mathlib.Core.Option.{Option, none, some}
 use mathlib.Core.List.{List, [], _∷_}
@@ -21,11 +20,10 @@ use Rattle.meaning.specs.Calls.{startOf, valuesOf, lentValues, isTableOf, partF
 use Rattle.meaning.specs.Run.{Ran, runFrom, runReady, ranOf, runOf}
 use Rattle.meaning.specs.Check.{counts, checkStates, checkSteps, checkAssertions, checkSet, checkOf}
 use Rattle.theory.specs.Tests.{ltb-true}
-use Rattle.theory.specs.Found.{ok-not-refuse, ok-same, bind-ok, demand-ok}
+use Rattle.theory.specs.Found.{bind-ok, demand-ok}
 use Rattle.theory.specs.WellFormed.{WellFormed}
 use Rattle.theory.specs.WellRead.{read-well-formed, states-few}
 use Rattle.theory.specs.Numbers.{initial-below}
-use Rattle.theory.specs.StepExactly.{step-exactly}
 use Rattle.state.specs.Held.{initialNumber}
 use Rattle.state.proofs.Means.{count-is, initial-number}
 use Rattle.simulator.specs.StepIndex.{stepIndex, examined}
@@ -47,7 +45,6 @@ use Rattle.scr.specs.declared.opening.Opened.the-variants as OV
 use Rattle.scr.specs.Answers.{refused, answerSays, verdictSays, countSays, countOf}
 use Rattle.scr.specs.Indexed as I
 use Rattle.scr.specs.Opened.{OpenedAs}
-use Rattle.scr.specs.Promises.{StepsExactly}
 
 -- what is made of the last answer may be made after all of them
 last-bound : {B : Type 0} (x y w : Outcome (Unit {0})) (d : ℕ) (f : ℕ → B)
@@ -242,19 +239,6 @@ module _ (ws ps us os : List ℕ) (o : O.Opened) (h : OpenedAs ws o ps us os) wh
     written-set s room out after er =
         let p = rw e at h in
         (rw part-of-order at er) ∙ ap (λ (x : Outcome Values). lentValues x out) (sym (values-said ws (p .0) n a c ps us os (p .1) s room))
-
--- ---- step's promise follows from its equation
-answer-state : (r : Answer) (t : ℕ) → (r ≡ A.State t) ↔ (answerSays r ≡ ok t)
-unfolding answerSays refused
-answer-state (A.State u) t = (λ e. (let q : u ≡ t = cc in ap ok q), λ e. ap A.State (ok-same e))
-answer-state (A.Refused f) t =
-    (λ e. absurd (let x : _≡_ {A = ℕ} 0 1 = cc in (let o : ⊥ = omega arith in o)), λ e. absurd (ok-not-refuse (sym e)))
-
-pub steps-exactly : (ws : List ℕ) (s w : ℕ) (r : Answer) → answerSays r ≡ stepOf ws s w → StepsExactly ws s w r
-steps-exactly ws s w r e t =
-    let p = answer-state r t in
-    let q = step-exactly ws s w t in
-    (λ x. q .0 (sym e ∙ p .0 x), λ x. p .1 (e ∙ q .1 x))
 
 -- ---- rows
 module _ (ws : List ℕ) (v : ℕ) (b : Bool) (eb : b ≡ I.readsWell ws) where

@@ -12,14 +12,14 @@ use Rattle.meaning.specs.Check.{Counts, counts}
 use Rattle.meaning.specs.Moved.{Clean}
 use Rattle.meaning.specs.Passes.{Reads, Passes, Refused}
 use Rattle.scr.specs.declared.Answer.{Answer}
-use Rattle.scr.specs.declared.Answer.the-variants.{State}
 use Rattle.scr.specs.declared.Verdict.{Verdict}
-use Rattle.scr.specs.Answers.{verdictSays}
+use Rattle.scr.specs.Answers.{answerSays, verdictSays}
 
 -- Demand 2, of check: "A set passes exactly if it reads, its tables have a dependency order, no condition table has a gap or an overlap at a
 -- typed state, no mode or event table an overlap at a typed step, and each assertion holds initially and is kept by every step under
 -- the earlier ones. Each refusal shows the first such cycle, gap, overlap or violating step."
--- `Passes` and `Refused` say it of the words and the set; nothing in them is taken from what check works out.
+-- `Passes` and `Refused` say it of the words and the set: of reading they take what the words say, and places are compared along the dependency
+-- order; nothing else that check works out stands in them.
 pub record Demand2 (ws : List ℕ) (r : Verdict) : Type 0 where
   -- a pass, with the three counts
   pub passes : (c : Counts) → (verdictSays r ≡ ok c) ↔ ((z : TableSet) × Passes ws z × (c ≡ counts z))
@@ -31,5 +31,5 @@ pub record Demand2 (ws : List ℕ) (r : Verdict) : Type 0 where
 -- the state after.
 abbrev pub StepsExactly : List ℕ → ℕ → ℕ → Answer → Type 0
 StepsExactly ws s w r =
-    (s′ : ℕ) → (r ≡ State s′)
+    (s′ : ℕ) → (answerSays r ≡ ok s′)
     ↔ ((z : TableSet) × Reads ws z × (s < stateCount z) × (enabledWord z s w ≡ true) × Clean z s (inputOf w) s′)

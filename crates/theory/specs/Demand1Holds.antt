@@ -25,7 +25,7 @@ use Rattle.meaning.specs.Run.{Ran, runFrom, runReady, ranOf, runOf}
 use Rattle.meaning.specs.Moved.{Course}
 use Rattle.meaning.specs.Passes.{Reads, Refused, refusal-1-to-8, refusal-9, refusal-10, refusal-11, refusal-12, refusal-13, refusal-14}
 use Rattle.meaning.specs.Demand3.{Written}
-use Rattle.meaning.specs.Demand1.{ReadRefused, read-9, StateRefused, EventRefused, StartRefused, StepRefused, step-1-to-9, step-15, step-event, ValuesRefused, values-1-to-9, values-17, values-15, values-state, RunRefused, run-1-to-9, run-17-events, run-17-room, run-15, run-event, AnswersOrRefuses, RunAnswers, RowsAnswers, Demand1}
+use Rattle.meaning.specs.Demand1.{ReadRefused, read-9, StateRefused, EventRefused, StartRefused, StepRefused, step-1-to-9, step-15, step-event, ValuesRefused, values-1-to-9, values-17, values-15, values-state, RunRefused, run-1-to-9, run-17-events, run-17-room, run-15, run-event, RunDone, AnswersOrRefuses, RunAnswers, RowsAnswers, Demand1}
 use Rattle.theory.specs.Tests.{true-not-false, otherwise, ltb-true, true-ltb, leb-true, true-leb}
 use Rattle.theory.specs.Found.{ok-not-refuse, ok-same, refuse-same, answered, bind-ok, bind-refuse, given-refuse, demand-ok, demand-then-refuse, LeastView, absent, found, least-view}
 use Rattle.theory.specs.WellFormed.{WellFormed}
@@ -34,7 +34,7 @@ use Rattle.theory.specs.Orders.{order-exists}
 use Rattle.theory.specs.CheckExactly.{reads-exactly, check-refuses-exactly}
 use Rattle.theory.specs.StepExactly.{step-at-exactly}
 use Rattle.theory.specs.CourseExactly.{clean-typed, every-list-has-one-course}
-use Rattle.theory.specs.RunExactly.{sets-others, sets-written, turn-done, turn-refused}
+use Rattle.theory.specs.RunExactly.{sets-others, sets-written, turn-done, turn-refused, run-all}
 use Rattle.theory.specs.ReadExactly.{leb-false, read-refuses-exactly, read-number}
 use Rattle.theory.specs.EventExactly.{state-refuses-exactly, event-refuses-exactly, state-number, event-number}
 
@@ -199,6 +199,22 @@ module _ (z : TableSet) where
             ap (λ (r : Ran). r .last) e ∙ sym (p .2) ∙ q′
       ]
 
+  -- a run that is not refused has done all, and gives the state last reached
+  events-done : (es : List ℕ) (i s t : ℕ) → runFrom z i s es .last ≡ ok t
+      → (length (runFrom z i s es .done) ≡ length es) × (t ≡ LastState s (runFrom z i s es))
+  unfolding runFrom
+  events-done [] i s t h = (refl, sym (ok-same h))
+  events-done (w ∷ es) i s t h =
+      elim (answered (stepAt z i s w)) [
+        | inl p ↦
+            let e = turn-done z i s w es (p .0) (p .1) in
+            let q = events-done es (suc i) (p .0) t (ap (λ (r : Ran). r .last) (sym e) ∙ h) in
+            subst (λ (r : Ran). (length (r .done) ≡ suc (length es)) × (t ≡ LastState s r)) (sym e) (ap suc (q .0), q .1)
+        | inr p ↦
+            let e = turn-refused z i s w es (p .0) (p .1) (p .2) in
+            absurd (ok-not-refuse (sym (ap (λ (r : Ran). r .last) (sym e) ∙ h)))
+      ]
+
   -- from a typed state a run reaches typed states
   last-typed : noCycle z ≡ ok tt → WellFormed z → (es : List ℕ) (i s : ℕ) → s < stateCount z → LastState s (runFrom z i s es) < stateCount z
   unfolding runFrom
@@ -327,6 +343,42 @@ module _ (ws : List ℕ) (s : ℕ) (es : List ℕ) (room : ℕ) where
           subst (λ (d : List ℕ). ranOf ws s es room ≡ record { done = d; last = refuse n xs }) (sym same)
           (subst (λ (o : Outcome ℕ). ranOf ws s es room ≡ record { done = Whole z rd .done; last = o }) e (ran-ready z (ok-ready z rd)))
 
+  ran-done : (t : ℕ) → ranOf ws s es room .last ≡ ok t → RunDone ws s es room (ranOf ws s es room .done) t
+  ran-done t e = go (runReady ws s (length es) room) refl
+    where
+      go : (m : Outcome TableSet) → runReady ws s (length es) room ≡ m → RunDone ws s es room (ranOf ws s es room .done) t
+      go (ok z) p =
+          let h = ready-ok z p in
+          let q = ran-ready z p in
+          let d = events-done z es 0 s t (ap (λ (r : Ran). r .last) (sym q) ∙ e) in
+          subst (λ (r : Ran). RunDone ws s es room (r .done) t) (sym q) (record {
+            set = z;
+            reads = h .reads;
+            few = h .few;
+            fits = h .fits;
+            typed = h .typed;
+            course = the-course z h .0;
+            all = d .0;
+            last = d .1;
+          })
+      go (refuse k ys) p = absurd (ok-not-refuse (sym (ap (λ (r : Ran). r .last) (sym (ran-unready k ys p)) ∙ e)))
+
+  done-ran : (done : List ℕ) (t : ℕ) → RunDone ws s es room done t → ranOf ws s es room ≡ record { done = done; last = ok t }
+  done-ran done t d = go (ap (drop 1) (the-course z rd .1 (s ∷ done) (d .course)))
+    where
+      z : TableSet
+      z = d .set
+
+      rd : Ready z
+      rd = record { reads = d .reads; few = d .few; fits = d .fits; typed = d .typed }
+
+      go : done ≡ Whole z rd .done → ranOf ws s es room ≡ record { done = done; last = ok t }
+      go same =
+          let n : length (Whole z rd .done) ≡ length es = subst (λ (l : List ℕ). length l ≡ length es) same (d .all) in
+          let e : Whole z rd .last ≡ ok t = run-all z es 0 s n ∙ ap ok (rw (← same, ← d .all) (sym (d .last))) in
+          subst (λ (l : List ℕ). ranOf ws s es room ≡ record { done = l; last = ok t }) (sym same)
+          (subst (λ (o : Outcome ℕ). ranOf ws s es room ≡ record { done = Whole z rd .done; last = o }) e (ran-ready z (ok-ready z rd)))
+
   run-number : {done : List ℕ} {n : ℕ} {xs : List ℕ} → RunRefusal done n xs → (1 ≤ n) × (n ≤ 17)
   run-number (run-1-to-9 r) = let p = read-number ws r in (p .0, omega (arith, p .1))
   run-number (run-17-events z r k) = (lit≤ tt, lit≤ tt)
@@ -346,15 +398,20 @@ module _ (ws : List ℕ) (s : ℕ) (es lent : List ℕ) (place : ℕ) where
   abbrev Room : ℕ
   Room = length lent - place
 
+  done-written : (done : List ℕ) → length done ≤ Room → Written (s ∷ done) (length done) lent place (sets lent place done)
+  done-written done fits = record {
+    same-length = length-sets lent place done;
+    states = λ i l. sets-written lent place done i l (omega (arith, l, fits));
+    others = λ j h. sets-others lent place done j h;
+  }
+
   run-written : (done : List ℕ) (n : ℕ) (xs : List ℕ) → RunRefused ws s es Room done n xs
       → Written (s ∷ done) (length done) lent place (sets lent place (ranOf ws s es Room .done))
-  run-written done n xs r =
-      let fits = done-fits ws s es Room r in
-      rw (refused-ran ws s es Room r) (record {
-        same-length = length-sets lent place done;
-        states = λ i l. sets-written lent place done i l (omega (arith, l, fits));
-        others = λ j h. sets-others lent place done j h;
-      })
+  run-written done n xs r = rw (refused-ran ws s es Room r) (done-written done (done-fits ws s es Room r))
+
+  all-written : (done : List ℕ) (t : ℕ) → RunDone ws s es Room done t
+      → Written (s ∷ done) (length done) lent place (sets lent place (ranOf ws s es Room .done))
+  all-written done t d = rw (done-ran ws s es Room done t d) (done-written done (omega (arith, d .all, d .fits)))
 
   run-answers : RunAnswers ws s es lent place (runOf ws s es lent place .answer) (runOf ws s es lent place .lent)
   unfolding runOf
@@ -363,6 +420,11 @@ module _ (ws : List ℕ) (s : ℕ) (es lent : List ℕ) (place : ℕ) where
         (λ n xs. (λ e. (ranOf ws s es Room .done, ran-refused ws s es Room n xs e), λ p. ap (λ (r : Ran). r .last) (refused-ran ws s es Room (p .1))))
         (λ n xs p. run-number ws s es Room (p .1));
     written = run-written;
+    done-exactly = λ t. (
+      λ e. (ranOf ws s es Room .done, ran-done ws s es Room t e),
+      λ p. ap (λ (r : Ran). r .last) (done-ran ws s es Room (p .0) t (p .1)),
+    );
+    all-written = all-written;
     one-list = λ done done′ m n xs ys r q. ap (λ (x : Ran). x .done) (sym (refused-ran ws s es Room r) ∙ refused-ran ws s es Room q);
   }
 

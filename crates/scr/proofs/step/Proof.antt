@@ -1,5 +1,5 @@
-use Rattle.scr.proofs.Demanded.{step-demand}
-use Rattle.scr.proofs.Entering.{index-few, order-room, step-refused, step-set, steps-exactly}
+use Rattle.scr.proofs.Demanded.{step-demand, steps-exactly}
+use Rattle.scr.proofs.Entering.{index-few, order-room, step-refused, step-set}
 use borrow.Author.Needs.{needs}
 use Rattle.scr.proofs.step.Statement.{statement}
 use Rattle.scr.proofs.step.Tie as tie
