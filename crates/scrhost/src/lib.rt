@@ -2,18 +2,17 @@
 mod numbers; // answers as numbers
 mod words; // bytes to words
 
+use numbers::REFUSED;
 use numbers::check_number;
 use numbers::step_number;
 use scr::check;
 use scr::step;
 use words::copy_words;
+use words::fits;
 ghost use mathlib.Core.Path.{_≡_};
 ghost use Rattle.meaning.specs.Host.{hostCheckOf, hostStepOf};
 
-// Four bytes for each of 4,096 words. More are refused before any is copied; none at all are refused by check and step themselves.
-const MOST_BYTES: usize = 16384;
-
-// The bytes are no whole words, or more of them than a set has.
+// Refusal 1: the bytes are no whole words, or more words than a set has. That there are none is found by check and step.
 const LENGTH: u32 = 1;
 
 // 0, or the number of the refusal.
@@ -21,10 +20,7 @@ const LENGTH: u32 = 1;
 pub extern "C" fn scr_check(bytes: &[u8]) -> u32
     ensures { λ r. ⌜ r ≡ hostCheckOf (now (bytes .entry)) ⌝ }
 {
-    if bytes.len() % 4 != 0 {
-        return LENGTH;
-    }
-    if MOST_BYTES < bytes.len() {
+    if !fits(bytes.len()) {
         return LENGTH;
     }
     let n = bytes.len() / 4;
@@ -38,11 +34,8 @@ pub extern "C" fn scr_check(bytes: &[u8]) -> u32
 pub extern "C" fn scr_step(bytes: &[u8], state: u32, event: u32) -> u32
     ensures { λ r. ⌜ r ≡ hostStepOf (now (bytes .entry)) state event ⌝ }
 {
-    if bytes.len() % 4 != 0 {
-        return numbers::REFUSED + LENGTH;
-    }
-    if MOST_BYTES < bytes.len() {
-        return numbers::REFUSED + LENGTH;
+    if !fits(bytes.len()) {
+        return REFUSED + LENGTH;
     }
     let n = bytes.len() / 4;
     let mut words = [0u32; 4096];

@@ -1,8 +1,20 @@
 // Bytes to words, four bytes a word, lowest first.
 ghost use mathlib.Core.Path.{_≡_};
-ghost use Prim.Native.Nat.{ℕ, _+_, _*_, _<_, _≤_};
+ghost use mathlib.Core.Bool.{_&&_};
+ghost use Prim.Native.Nat.{ℕ, _+_, _*_, _%_, _<_, _≤_};
+ghost use lib.Dec.{eqb, leb};
 ghost use lib.ListN.{length, take};
 ghost use Rattle.meaning.specs.Host.{wordOfBytes, wordsOfBytes};
+
+// Four bytes for each of 4,096 words.
+const MOST_BYTES: usize = 16384;
+
+// So many bytes are whole words, and no more than there is room for.
+pub fn fits(bytes: usize) -> bool
+    ensures { λ r. ⌜ r ≡ (eqb (bytes % 4) 0 && leb bytes 16384) ⌝ }
+{
+    (bytes % 4 == 0) & (bytes <= MOST_BYTES)
+}
 
 fn wide(b: u8) -> u32
     ensures { λ r. ⌜ r ≡ b ⌝ }

@@ -1,4 +1,5 @@
-use Rattle.scrhost.proofs.Hosting.{number-fits, step-gives, step-refuses}
+use native.Mathlib.Omega.{arith}
+use Rattle.scrhost.proofs.Hosting.{number-few, step-gives, step-refuses}
 use borrow.Author.Needs.{needs}
 use Rattle.scrhost.proofs.numbers.step_number.Statement.{statement}
 use Rattle.scrhost.proofs.numbers.step_number.Tie as tie
@@ -20,7 +21,7 @@ refusal-number-requires c κs = search needs
 
 -- src/numbers.rt:28:31
 add-result : tie.Need-add-result
-add-result c = search number-fits
+add-result c = omega (arith, number-few _ _ (c .refusal-number .ensures))
 
 -- src/numbers.rt:23:1
 returns : tie.Need-returns
