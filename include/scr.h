@@ -9,7 +9,7 @@
  * else is asked of a caller. Every content and every length has an answer. The bytes are only read, and not after the return.
  *
  * No state is kept between calls: both functions give the same answer for the same arguments, and threads may call them at the same time,
- * on the same bytes too as long as nobody writes to them. Each call takes about 20 KiB of stack, no heap, and always returns.
+ * on the same bytes too as long as nobody writes to them. Each call takes about 24 KiB of stack, no heap, and always returns.
  *
  * Refusals, by their numbers:
  *
@@ -44,8 +44,8 @@ extern "C" {
 #define SCR_REFUSED UINT32_C(0x80000000)
 
 /*
- * Whether the set may be loaded: 0, or the number of the first refusal, 1 to 14. All states and all steps of the set are tried, which can
- * take seconds where there are many.
+ * Whether the set may be loaded: 0, or the number of the refusal, 1 to 14. All states and all steps of the set are tried, which can take
+ * minutes for the largest sets.
  */
 uint32_t scr_check(const uint8_t *bytes, size_t length);
 
