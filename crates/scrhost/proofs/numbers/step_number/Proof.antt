@@ -1,0 +1,37 @@
+use native.Mathlib.Omega.{arith}
+use Rattle.scrhost.proofs.Hosting.{number-few, step-gives, step-refuses}
+use borrow.Author.Needs.{needs}
+use Rattle.scrhost.proofs.numbers.step_number.Statement.{statement}
+use Rattle.scrhost.proofs.numbers.step_number.Tie as tie
+use Rattle.scrhost.proofs.numbers.step_number.Reads as reads
+use Rattle.scrhost.proofs.numbers.step_number.Lts as lts
+use Rattle.scr.proofs.refusal_number.Reads as refusal-number-reads
+
+-- src/numbers.rt:27:23
+enum-known-a : tie.Need-enum-known-a
+enum-known-a c = search needs
+
+-- src/numbers.rt:28:25
+enum-known-a-2 : tie.Need-enum-known-a-2
+enum-known-a-2 c = search needs
+
+-- src/numbers.rt:28:41
+refusal-number-requires : tie.Need-refusal-number-requires
+refusal-number-requires c κs = search needs
+
+-- src/numbers.rt:28:31
+add-result : tie.Need-add-result
+add-result c = omega (arith, number-few _ _ (c .refusal-number .ensures))
+
+-- src/numbers.rt:23:1
+returns : tie.Need-returns
+returns c = search step-gives
+
+-- src/numbers.rt:23:1
+returns-2 : tie.Need-returns-2
+returns-2 c = search step-refuses
+
+pub step-number-spec : {M : Type 1} → statement M
+step-number-spec =
+    tie.close
+    (tie.spec enum-known-a enum-known-a-2 refusal-number-requires add-result returns returns-2)
