@@ -4,3 +4,4 @@ pub mod Calling
 pub mod Deciding
 pub mod Performing
 pub mod Entering
+pub mod Demanded

@@ -11,9 +11,7 @@ use borrow.Author.Tests.{le-ltb, lt-ltb, lt-leb, le-leb}
 use borrow.Rule.Slice.PartMut.{putMid}
 use Rattle.meaning.specs.Answers.{Outcome, ok, refuse, _>>=_, demand}
 use Rattle.meaning.specs.Steps.{inputOf}
-use Rattle.meaning.specs.Run.{Ran, runOf}
-use Rattle.meaning.specs.Demand3.{Demand3}
-use Rattle.theory.specs.RunExactly.{demand-3-holds}
+use Rattle.meaning.specs.Run.{Ran}
 use Rattle.simulator.specs.declared.Stepped.{Stepped}
 use Rattle.simulator.specs.declared.run.Ended.{Ended}
 use Rattle.simulator.specs.declared.run.Ended.the-variants as E
@@ -131,9 +129,3 @@ lent-back l ys vs p h e =
     let whole : length (drop p l) ≤ length l - p = simp length-drop (omega arith) in
     rw (e, take-all (length l - p) (drop p l) whole, drop-of-length-le (drop p l) whole, append-nil (sets (drop p l) 0 vs))
     (part-sets l p 0 vs ∙ rw (add-zero p))
-
--- ---- demand 3 from the two equations
-pub demand-3 : (ws : List ℕ) (s : ℕ) (es lent : List ℕ) (place : ℕ) (r : Answer) (after : List ℕ)
-    → answerSays r ≡ runOf ws s es lent place .answer → after ≡ runOf ws s es lent place .lent
-    → Demand3 ws s es lent place (answerSays r) after
-demand-3 ws s es lent place r after ea el = rw (ea, el) (demand-3-holds ws s es lent place)

@@ -1,4 +1,5 @@
-// The public face: the answers, and the entries with their promises. Every entry takes words, states, events and lists of every content
+// The public face: the answers, and the entries with their promises: an equation for all that is given and written, demand 1
+// (AnswersOrRefuses, RunAnswers, RowsAnswers), and beside them demands 2 and 3 where they speak of the entry. Every entry takes words, states, events and lists of every content
 // and length.
 mod calls; // what is done once the set has been read
 mod opening; // reading the set
@@ -19,6 +20,8 @@ ghost use lib.ListN.{length};
 ghost use Rattle.meaning.specs.Calls.{startOf, valuesOf, lentValues, rowsOf};
 ghost use Rattle.meaning.specs.Steps.{stepOf};
 ghost use Rattle.meaning.specs.Run.{runOf};
+ghost use Rattle.meaning.specs.Passes.{Refused};
+ghost use Rattle.meaning.specs.Demand1.{StartRefused, StepRefused, ValuesRefused, AnswersOrRefuses, RunAnswers, RowsAnswers};
 ghost use Rattle.meaning.specs.Demand3.{Demand3};
 ghost use Rattle.meaning.specs.Check.{checkOf};
 ghost use Rattle.scr.specs.Answers.{answerSays, verdictSays, countSays, countOf};
@@ -121,6 +124,7 @@ pub enum Count {
 // The initial state, or the first of refusals 1 to 9.
 pub fn start(words: &[u32]) -> Answer
     ensures { λ r. ⌜ answerSays r ≡ startOf (now (words .entry)) ⌝ }
+    ensures { λ r. ⌜ AnswersOrRefuses (answerSays r) (StartRefused (now (words .entry))) ⌝ }
 {
     let mut places = [0usize; 32];
     let mut weights = [0u32; 32];
@@ -135,6 +139,7 @@ pub fn start(words: &[u32]) -> Answer
 // The word that a set may be loaded: all typed states and all typed steps are tried, and every assertion.
 pub fn check(words: &[u32]) -> Verdict
     ensures { λ r. ⌜ verdictSays r ≡ checkOf (now (words .entry)) ⌝ }
+    ensures { λ r. ⌜ AnswersOrRefuses (verdictSays r) (Refused (now (words .entry))) ⌝ }
     ensures { λ r. ⌜ Demand2 (now (words .entry)) r ⌝ }
 {
     let mut places = [0usize; 32];
@@ -151,6 +156,7 @@ pub fn check(words: &[u32]) -> Verdict
 // and the event word is enabled.
 pub fn step(words: &[u32], state: u32, event: u32) -> Answer
     ensures { λ r. ⌜ answerSays r ≡ stepOf (now (words .entry)) state event ⌝ }
+    ensures { λ r. ⌜ AnswersOrRefuses (answerSays r) (StepRefused (now (words .entry)) state event) ⌝ }
     ensures { λ r. ⌜ StepsExactly (now (words .entry)) state event r ⌝ }
 {
     let mut places = [0usize; 32];
@@ -177,6 +183,7 @@ pub fn step(words: &[u32], state: u32, event: u32) -> Answer
 pub fn run(words: &[u32], state: u32, events: &[u32], trace: &mut [u32], place: usize) -> Answer
     ensures { λ r. ⌜ answerSays r ≡ runOf (now (words .entry)) state (now (events .entry)) (now (trace .entry)) place .answer ⌝ }
     ensures { λ r. ⌜ now (trace .exit) ≡ runOf (now (words .entry)) state (now (events .entry)) (now (trace .entry)) place .lent ⌝ }
+    ensures { λ r. ⌜ RunAnswers (now (words .entry)) state (now (events .entry)) (now (trace .entry)) place (answerSays r) (now (trace .exit)) ⌝ }
     ensures { λ r. ⌜ Demand3 (now (words .entry)) state (now (events .entry)) (now (trace .entry)) place (answerSays r) (now (trace .exit)) ⌝ }
 {
     let mut places = [0usize; 32];
@@ -204,6 +211,7 @@ pub fn run(words: &[u32], state: u32, events: &[u32], trace: &mut [u32], place: 
 pub fn values(words: &[u32], state: u32, out: &mut [Value]) -> Count
     ensures { λ r. ⌜ countSays r ≡ countOf (valuesOf (now (words .entry)) state (length (now (out .entry)))) ⌝ }
     ensures { λ r. ⌜ now (out .exit) ≡ lentValues (valuesOf (now (words .entry)) state (length (now (out .entry)))) (now (out .entry)) ⌝ }
+    ensures { λ r. ⌜ AnswersOrRefuses (countSays r) (ValuesRefused (now (words .entry)) state (length (now (out .entry)))) ⌝ }
 {
     let mut places = [0usize; 32];
     let mut weights = [0u32; 32];
@@ -228,6 +236,7 @@ pub fn values(words: &[u32], state: u32, out: &mut [Value]) -> Count
 // no such table.
 pub fn rows(words: &[u32], variable: u32) -> &[u32]
     ensures { λ r. ⌜ now r ≡ rowsOf (now (words .entry)) variable ⌝ }
+    ensures { λ r. ⌜ RowsAnswers (now (words .entry)) variable (now r) ⌝ }
 {
     if !calls::reads(words) {
         return &words[0..0];

@@ -1,9 +1,11 @@
 // Each call, its effect put into a buffer. Each function gives the place after what it put.
 use crate::fields;
+use crate::input::words_from;
 use crate::least;
 use crate::text::put_line;
 use crate::text::put_values;
 use crate::text::put_words;
+use index::word_at;
 use scr::Answer;
 use scr::Count;
 use scr::Verdict;
@@ -78,11 +80,43 @@ pub fn values(set: &[u32], state: u32, room: usize, out: &mut [u8]) -> usize {
     values_into(set, state, &mut lent[0..m], out)
 }
 
-// The part itself is printed, word by word, as it was handed back.
+// Do the words of the part stand in the set from a place on?
+fn stands_at(set: &[u32], part: &[u32], at: usize) -> bool {
+    let there = words_from(set, at, part.len());
+    if there.len() != part.len() {
+        return false;
+    }
+    for i in 0..part.len() {
+        if word_at(there, i) != part[i] {
+            return false;
+        }
+    }
+    true
+}
+
+// Where the part stands in the set, found by its words alone: a table word stands in a set once.
+fn place_in(set: &[u32], part: &[u32]) -> usize {
+    for at in 0..set.len() {
+        if stands_at(set, part, at) {
+            return at;
+        }
+    }
+    set.len()
+}
+
+// The part that was handed back is looked for in the set.
 pub fn rows(set: &[u32], variable: u32, out: &mut [u8]) -> usize {
     let part = scr::rows(set, variable);
-    let on = put_line(out, 0, b"ROWS", fields::one(part.len() as u64));
-    put_words(out, on, part)
+    if part.len() == 0 {
+        return put_line(out, 0, b"ROWS", fields::two(0, 0));
+    }
+    let place = place_in(set, part);
+    put_line(
+        out,
+        0,
+        b"ROWS",
+        fields::two(place as u64, part.len() as u64),
+    )
 }
 
 pub fn check(set: &[u32], out: &mut [u8]) -> usize {

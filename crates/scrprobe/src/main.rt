@@ -8,9 +8,9 @@
 //     then   step: state, event; run: state, place, length of the lent list, at most 8,000, and all words left are its events, at most
 //            5,000; values: state, length of the lent list, at most 300; rows: variable
 //
-// The output is a line STATE s, VALUES n, ROWS n, PASS states steps assertions or REFUSE number carried.., then for run and values a line with
-// the whole lent list, whose elements are 4294967295 and 238 before the call, and for rows a line with the words of the part. Another
-// call prints nothing.
+// The output is a line STATE s, VALUES n, ROWS place length (0 0 for the empty part), PASS states steps assertions or REFUSE number carried..,
+// then for run and values a line with the whole lent list, whose elements are 4294967295 and 238 before the call. Another call prints
+// nothing.
 mod calls; // each call and its lines
 mod fields; // the numbers of a line
 mod input; // bytes to words

@@ -23,3 +23,6 @@ pub mod Refusals
 pub mod StepExactly
 pub mod CourseExactly
 pub mod RunExactly
+pub mod ReadExactly
+pub mod EventExactly
+pub mod Demand1Holds

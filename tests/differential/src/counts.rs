@@ -44,7 +44,7 @@ impl Answer {
             ["REFUSE", number @ ("10" | "11"), "0", ..] => (number, "side 0"),
             ["REFUSE", number @ ("10" | "11"), ..] => (number, "side 1"),
             ["REFUSE", number, ..] => (number, ""),
-            ["ROWS", "0"] => ("0", "empty"),
+            ["ROWS", "0", "0"] => ("0", "empty"),
             _ => ("0", ""),
         };
         Answer { name: fields[0].to_string(), number: number.parse().unwrap_or(0), detail }
@@ -113,8 +113,8 @@ mod tests {
         assert_eq!(kind(""), "nothing");
         assert_eq!(kind("STATE 10\n"), "STATE");
         assert_eq!(kind("VALUES 2\n0 1\n"), "VALUES");
-        assert_eq!(kind("ROWS 2\n3 4\n"), "ROWS");
-        assert_eq!(kind("ROWS 0\n\n"), "ROWS empty");
+        assert_eq!(kind("ROWS 9 2\n"), "ROWS");
+        assert_eq!(kind("ROWS 0 0\n"), "ROWS empty");
         assert_eq!(kind("REFUSE 9 3 1\n"), "REFUSE 9");
         assert_eq!(kind("REFUSE 10 1 5 3\n"), "REFUSE 10 side 1");
         assert_eq!(kind("REFUSE 11 0 4 3 0 3\n238\n"), "REFUSE 11 side 0");

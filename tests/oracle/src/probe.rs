@@ -64,7 +64,8 @@ fn probe_values(set: &[u32], input: &mut Input) -> String {
 
 fn probe_rows(set: &[u32], variable: u32) -> String {
     let part = rows(set, variable as usize);
-    format!("ROWS {}\n{}\n", part.len(), join(part))
+    let place = if part.is_empty() { 0 } else { part_index(set, part) };
+    format!("ROWS {} {}\n", place, part.len())
 }
 
 /// Where a part of a list starts in it: the part lies in the caller's words and is no copy.

@@ -1,5 +1,5 @@
 use Rattle.scr.proofs.Entering.{index-few, states-room, order-room, check-refused, check-set}
-use Rattle.scr.proofs.Deciding.{demand-2}
+use Rattle.scr.proofs.Demanded.{check-demand, demand-2}
 use borrow.Author.Needs.{needs}
 use Rattle.scr.proofs.check.Statement.{statement}
 use Rattle.scr.proofs.check.Tie as tie
@@ -58,11 +58,11 @@ verdict-requires c κs = (search index-few, search states-room)
 
 -- src/lib.rt:133:1
 returns : tie.Need-returns
-returns c = (search check-refused, demand-2 _ _ (search check-refused))
+returns c = (search check-refused, (check-demand _ _ (search check-refused), demand-2 _ _ (search check-refused)))
 
 -- src/lib.rt:133:1
 returns-2 : tie.Need-returns-2
-returns-2 c = (search check-set, demand-2 _ _ (search check-set))
+returns-2 c = (search check-set, (check-demand _ _ (search check-set), demand-2 _ _ (search check-set)))
 
 pub check-spec : {M : Type 1} → statement M
 check-spec =

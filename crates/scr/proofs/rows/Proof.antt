@@ -1,3 +1,4 @@
+use Rattle.scr.proofs.Demanded.{rows-demand}
 use Rattle.part.proofs.Laws.{end-after, end-within}
 use Rattle.scr.proofs.Entering.{rows-unread, rows-none, rows-part}
 use borrow.Author.Needs.{needs}
@@ -27,7 +28,7 @@ part-result-end c = search needs
 
 -- src/lib.rt:154:9
 returns : tie.Need-returns
-returns c = search rows-unread
+returns c = (search rows-unread, rows-demand _ _ _ (search rows-unread))
 
 -- src/lib.rt:156:9
 part-start-requires : tie.Need-part-start-requires
@@ -47,7 +48,7 @@ part-result-end-2 c = search needs
 
 -- src/lib.rt:158:9
 returns-2 : tie.Need-returns-2
-returns-2 c = search rows-none
+returns-2 c = (search rows-none, rows-demand _ _ _ (search rows-none))
 
 -- src/lib.rt:160:9
 part-end-requires : tie.Need-part-end-requires
@@ -71,7 +72,7 @@ part-result-end-3 c = search end-within
 
 -- src/lib.rt:150:1
 returns-3 : tie.Need-returns-3
-returns-3 c = search rows-part
+returns-3 c = (search rows-part, rows-demand _ _ _ (search rows-part))
 
 pub rows-spec : {M : Type 1} → statement M
 rows-spec =

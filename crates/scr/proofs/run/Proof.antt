@@ -1,5 +1,5 @@
 use Rattle.scr.proofs.Entering.{index-few, order-room, run-refused, run-kept, run-set, run-wrote}
-use Rattle.scr.proofs.Performing.{demand-3}
+use Rattle.scr.proofs.Demanded.{run-demand, demand-3}
 use borrow.Author.Needs.{needs}
 use Rattle.scr.proofs.run.Statement.{statement}
 use Rattle.scr.proofs.run.Tie as tie
@@ -58,7 +58,7 @@ run-requires c κs = search index-few
 
 -- src/lib.rt:177:1
 returns : tie.Need-returns
-returns c = (search run-refused, (search run-kept, demand-3 _ _ _ _ _ _ _ (search run-refused) (search run-kept)))
+returns c = (search run-refused, (search run-kept, (run-demand _ _ _ _ _ _ _ (search run-refused) (search run-kept), demand-3 _ _ _ _ _ _ _ (search run-refused) (search run-kept))))
 
 -- src/lib.rt:177:1
 same-length : tie.Need-same-length
@@ -66,7 +66,7 @@ same-length c = search needs
 
 -- src/lib.rt:177:1
 returns-2 : tie.Need-returns-2
-returns-2 c = (search run-set, (search run-wrote, demand-3 _ _ _ _ _ _ _ (search run-set) (search run-wrote)))
+returns-2 c = (search run-set, (search run-wrote, (run-demand _ _ _ _ _ _ _ (search run-set) (search run-wrote), demand-3 _ _ _ _ _ _ _ (search run-set) (search run-wrote))))
 
 pub run-spec : {M : Type 1} → statement M
 run-spec =

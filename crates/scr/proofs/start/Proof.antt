@@ -1,3 +1,4 @@
+use Rattle.scr.proofs.Demanded.{start-demand}
 use Rattle.scr.proofs.Entering.{index-few, start-refused, start-set}
 use borrow.Author.Needs.{needs}
 use Rattle.scr.proofs.start.Statement.{statement}
@@ -45,11 +46,11 @@ initial-state-requires c κs = search index-few
 
 -- src/lib.rt:103:1
 returns : tie.Need-returns
-returns c = search start-refused
+returns c = (search start-refused, start-demand _ _ (search start-refused))
 
 -- src/lib.rt:103:1
 returns-2 : tie.Need-returns-2
-returns-2 c = search start-set
+returns-2 c = (search start-set, start-demand _ _ (search start-set))
 
 pub start-spec : {M : Type 1} → statement M
 start-spec =

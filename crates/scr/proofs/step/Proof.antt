@@ -1,3 +1,4 @@
+use Rattle.scr.proofs.Demanded.{step-demand}
 use Rattle.scr.proofs.Entering.{index-few, order-room, step-refused, step-set, steps-exactly}
 use borrow.Author.Needs.{needs}
 use Rattle.scr.proofs.step.Statement.{statement}
@@ -57,11 +58,11 @@ step-requires c κs = search index-few
 
 -- src/lib.rt:118:1
 returns : tie.Need-returns
-returns c = (search step-refused, steps-exactly _ _ _ _ (search step-refused))
+returns c = (search step-refused, (step-demand _ _ _ _ (search step-refused), steps-exactly _ _ _ _ (search step-refused)))
 
 -- src/lib.rt:118:1
 returns-2 : tie.Need-returns-2
-returns-2 c = (search step-set, steps-exactly _ _ _ _ (search step-set))
+returns-2 c = (search step-set, (step-demand _ _ _ _ (search step-set), steps-exactly _ _ _ _ (search step-set)))
 
 pub step-spec : {M : Type 1} → statement M
 step-spec =

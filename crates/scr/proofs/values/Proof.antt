@@ -1,3 +1,4 @@
+use Rattle.scr.proofs.Demanded.{values-demand}
 use Rattle.scr.proofs.Entering.{index-few, order-room, values-refused, kept-refused, values-set, written-set}
 use borrow.Author.Needs.{needs}
 use Rattle.scr.proofs.values.Statement.{statement}
@@ -57,7 +58,7 @@ values-requires c κs = search index-few
 
 -- src/lib.rt:142:1
 returns : tie.Need-returns
-returns c = (search values-refused, search kept-refused)
+returns c = (search values-refused, (search kept-refused, search (values-demand, values-refused)))
 
 -- src/lib.rt:142:1
 same-length : tie.Need-same-length
@@ -65,7 +66,7 @@ same-length c = search needs
 
 -- src/lib.rt:142:1
 returns-2 : tie.Need-returns-2
-returns-2 c = (search values-set, search written-set)
+returns-2 c = (search values-set, (search written-set, search (values-demand, values-set)))
 
 pub values-spec : {M : Type 1} → statement M
 values-spec =

@@ -1,0 +1,86 @@
+-- The demands of each entry, from its equations: demand 1 of all, 2 of check, 3 of run.
+use mathlib.Core.Path.{_≡_, refl, sym, ap, _∙_, subst}
+use mathlib.Core.Logic.{_↔_, _⊎_, inl, inr}
+use mathlib.Core.List.{List, [], _∷_}
+use Prim.Native.Nat.{ℕ, _≤_}
+use lib.ListN.{length}
+use Rattle.meaning.specs.Answers.{Outcome, ok, refuse}
+use Rattle.meaning.specs.States.{Values}
+use Rattle.meaning.specs.Steps.{stepOf}
+use Rattle.meaning.specs.Check.{checkOf}
+use Rattle.meaning.specs.Run.{runOf}
+use Rattle.meaning.specs.Calls.{startOf, valuesOf, rowsOf}
+use Rattle.meaning.specs.Passes.{Refused}
+use Rattle.meaning.specs.Demand1.{StartRefused, StepRefused, ValuesRefused, AnswersOrRefuses, RunAnswers, RowsAnswers}
+use Rattle.meaning.specs.Demand3.{Demand3}
+use Rattle.theory.specs.Found.{ok-not-refuse, refuse-same}
+use Rattle.theory.specs.CheckExactly.{check-passes-exactly, check-refuses-exactly}
+use Rattle.theory.specs.RunExactly.{demand-3-holds}
+use Rattle.theory.specs.Demand1Holds.{demand-1}
+use Rattle.scr.specs.declared.Answer.{Answer}
+use Rattle.scr.specs.declared.Verdict.{Verdict}
+use Rattle.scr.specs.declared.Count.{Count}
+use Rattle.scr.specs.Answers.{answerSays, verdictSays, countSays, countOf}
+use Rattle.scr.specs.Promises.{Demand2}
+
+-- ---- demand 1
+pub start-demand : (ws : List ℕ) (r : Answer) → answerSays r ≡ startOf ws → AnswersOrRefuses (answerSays r) (StartRefused ws)
+start-demand ws r e = rw e (demand-1 .start ws)
+
+pub check-demand : (ws : List ℕ) (r : Verdict) → verdictSays r ≡ checkOf ws → AnswersOrRefuses (verdictSays r) (Refused ws)
+check-demand ws r e = rw e (demand-1 .check ws)
+
+pub step-demand : (ws : List ℕ) (s w : ℕ) (r : Answer) → answerSays r ≡ stepOf ws s w → AnswersOrRefuses (answerSays r) (StepRefused ws s w)
+step-demand ws s w r e = rw e (demand-1 .step ws s w)
+
+pub run-demand : (ws : List ℕ) (s : ℕ) (es lent : List ℕ) (place : ℕ) (r : Answer) (after : List ℕ)
+    → answerSays r ≡ runOf ws s es lent place .answer → after ≡ runOf ws s es lent place .lent
+    → RunAnswers ws s es lent place (answerSays r) after
+run-demand ws s es lent place r after ea el = rw (ea, el) (demand-1 .run ws s es lent place)
+
+-- the number of values is refused as the values are
+counted : (m : Outcome Values) (R : ℕ → List ℕ → Type 0) → AnswersOrRefuses m R → AnswersOrRefuses (countOf m) R
+unfolding countOf
+counted (ok a) R d = record {
+  either = inl (length a, refl);
+  not-both = λ c n xs e r. d .not-both a n xs refl r;
+  refuses = λ n xs. (λ e. absurd (ok-not-refuse e), λ r. absurd (d .not-both a n xs refl r));
+  one = d .one;
+  numbered = d .numbered;
+}
+counted (refuse k ys) R d = record {
+  either = inr (k, ys, d .refuses k ys .0 refl);
+  not-both = λ c n xs e r. absurd (ok-not-refuse (sym e));
+  refuses = λ n xs. (
+    λ e. let p = refuse-same e in d .refuses n xs .0 (rw (p .0, p .1)),
+    λ r. let p = refuse-same (d .refuses n xs .1 r) in rw (p .0, p .1),
+  );
+  one = d .one;
+  numbered = d .numbered;
+}
+
+pub values-demand : (ws : List ℕ) (s : ℕ) (lent : List ℕ) (r : Count) → countSays r ≡ countOf (valuesOf ws s (length lent))
+    → AnswersOrRefuses (countSays r) (ValuesRefused ws s (length lent))
+values-demand ws s lent r e = rw e (counted (valuesOf ws s (length lent)) (ValuesRefused ws s (length lent)) (demand-1 .values ws s lent))
+
+pub rows-demand : (ws : List ℕ) (v : ℕ) (part : List ℕ) → part ≡ rowsOf ws v → RowsAnswers ws v part
+rows-demand ws v part e = rw e (demand-1 .rows ws v)
+
+-- ---- demand 2
+pub demand-2 : (ws : List ℕ) (r : Verdict) → verdictSays r ≡ checkOf ws → Demand2 ws r
+demand-2 ws r e = record {
+  passes = λ c. (
+    λ q. check-passes-exactly ws c .0 (sym e ∙ q),
+    λ q. e ∙ check-passes-exactly ws c .1 q,
+  );
+  refuses = λ n xs. (
+    λ q. check-refuses-exactly ws n xs .0 (sym e ∙ q),
+    λ q. e ∙ check-refuses-exactly ws n xs .1 q,
+  );
+}
+
+-- ---- demand 3
+pub demand-3 : (ws : List ℕ) (s : ℕ) (es lent : List ℕ) (place : ℕ) (r : Answer) (after : List ℕ)
+    → answerSays r ≡ runOf ws s es lent place .answer → after ≡ runOf ws s es lent place .lent
+    → Demand3 ws s es lent place (answerSays r) after
+demand-3 ws s es lent place r after ea el = rw (ea, el) (demand-3-holds ws s es lent place)
