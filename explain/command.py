@@ -117,7 +117,7 @@ def told(source, verdict):
     """The explanation. A fault in it must not alter the exit status, which tells the verdict."""
     try:
         return explanation(source, verdict)
-    except Exception as fault:  # pylint: disable=broad-except
+    except Exception as fault:
         return [f"The verdict stands, but it can't be explained: {type(fault).__name__} {fault}"]
 
 

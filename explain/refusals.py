@@ -109,11 +109,11 @@ class Explainer(Witness):
 
     def refusal_8(self, variable):
         lines, states = [], 1
-        for held in range(variable + 1):
-            if self.reading.is_held(held):
-                size = self.reading.variables[held].size
-                lines.append(f"  {self.say.variable(held)}: {states} x {size} = {states * size}")
-                states *= size
+        for held in filter(self.reading.is_held, range(variable + 1)):
+            found(states <= w.MOST_STATES)
+            size = self.reading.variables[held].size
+            lines.append(f"  {self.say.variable(held)}: {states} x {size} = {states * size}")
+            states *= size
         found(states > w.MOST_STATES)
         return [f"At {self.say.variable(variable)} the product of the held variables' sizes passes {w.MOST_STATES:,}:", *lines]
 

@@ -31,6 +31,14 @@ class Examples(unittest.TestCase):
                     self.assertEqual((status, parts(output)[0], errors), (int(refused), lines, ""))
                     self.assertNotIn("own reading", output)
 
+    def test_the_readme_quotes_what_is_printed(self):
+        with open(os.path.join(ROOT, "README.md"), encoding="utf-8") as opened:
+            block = opened.read().split("    $ ./scr ", 1)[1].split("\n\n", 1)[0]
+        example, *quoted = block.split("\n    ")
+        printed = scr(os.path.join(ROOT, example))[1].splitlines()
+        self.assertTrue(quoted)
+        self.assertEqual([line for line in quoted if line.strip() != "..." and line not in printed], [])
+
 
 if __name__ == "__main__":
     unittest.main()
