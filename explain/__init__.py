@@ -1,0 +1,1 @@
+"""The explanation that ./scr prints under the verdict of the proved program. It decides nothing: the verdict is the program's."""
