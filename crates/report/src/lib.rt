@@ -1,0 +1,4 @@
+// All that the program prints, made by one function of the bytes of its input.
+mod decimal; // decimal numbers into a buffer
+mod fields; // the numbers of a line
+mod input; // bytes to words
