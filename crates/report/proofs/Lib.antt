@@ -1,3 +1,4 @@
-pub mod Listing
 pub mod Words
 pub mod Numbers
+pub mod Listing
+pub mod Printing

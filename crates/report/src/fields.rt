@@ -8,8 +8,8 @@ use scr::Refusal;
 use scr::StepOverlap;
 ghost use mathlib.Core.Path.{_≡_};
 ghost use mathlib.Core.List.{[], _∷_};
-ghost use Prim.Native.Nat.{ℕ, _≤_};
-ghost use Rattle.report.specs.Lines.{listed, numbersOf};
+ghost use Prim.Native.Nat.{ℕ};
+ghost use Rattle.report.specs.Lines.{AtMostSeven, listed, numbersOf};
 
 // The first `count` of the numbers. A refusal has seven at most.
 pub struct Fields {
@@ -19,7 +19,7 @@ pub struct Fields {
 
 fn two(a: u64, b: u64) -> Fields
     ensures { λ r. ⌜ listed r ≡ a ∷ b ∷ [] ⌝ }
-    ensures { λ r. ⌜ r .count ≤ 7 ⌝ }
+    ensures { λ r. ⌜ AtMostSeven r ⌝ }
 {
     Fields {
         numbers: [a, b, 0, 0, 0, 0, 0],
@@ -29,7 +29,7 @@ fn two(a: u64, b: u64) -> Fields
 
 pub fn counts(c: Counts) -> Fields
     ensures { λ r. ⌜ listed r ≡ c .states ∷ c .steps ∷ c .assertions ∷ [] ⌝ }
-    ensures { λ r. ⌜ r .count ≤ 7 ⌝ }
+    ensures { λ r. ⌜ AtMostSeven r ⌝ }
 {
     let states = c.states as u64;
     let assertions = c.assertions as u64;
@@ -41,7 +41,7 @@ pub fn counts(c: Counts) -> Fields
 
 fn cycle(c: Cycle) -> Fields
     ensures { λ r. ⌜ listed r ≡ 9 ∷ c .variable ∷ c .length ∷ [] ⌝ }
-    ensures { λ r. ⌜ r .count ≤ 7 ⌝ }
+    ensures { λ r. ⌜ AtMostSeven r ⌝ }
 {
     let variable = c.variable as u64;
     let length = c.length as u64;
@@ -53,7 +53,7 @@ fn cycle(c: Cycle) -> Fields
 
 fn gap(g: Gap) -> Fields
     ensures { λ r. ⌜ listed r ≡ 10 ∷ g .side ∷ g .state ∷ g .variable ∷ [] ⌝ }
-    ensures { λ r. ⌜ r .count ≤ 7 ⌝ }
+    ensures { λ r. ⌜ AtMostSeven r ⌝ }
 {
     let side = g.side as u64;
     let state = g.state as u64;
@@ -66,7 +66,7 @@ fn gap(g: Gap) -> Fields
 
 fn overlap(o: Overlap) -> Fields
     ensures { λ r. ⌜ listed r ≡ 11 ∷ o .side ∷ o .state ∷ o .variable ∷ o .first ∷ o .second ∷ [] ⌝ }
-    ensures { λ r. ⌜ r .count ≤ 7 ⌝ }
+    ensures { λ r. ⌜ AtMostSeven r ⌝ }
 {
     let side = o.side as u64;
     let state = o.state as u64;
@@ -81,7 +81,7 @@ fn overlap(o: Overlap) -> Fields
 
 fn step_overlap(o: StepOverlap) -> Fields
     ensures { λ r. ⌜ listed r ≡ 12 ∷ o .state ∷ o .input .variable ∷ o .input .value ∷ o .variable ∷ o .first ∷ o .second ∷ [] ⌝ }
-    ensures { λ r. ⌜ r .count ≤ 7 ⌝ }
+    ensures { λ r. ⌜ AtMostSeven r ⌝ }
 {
     let state = o.state as u64;
     let input = o.input.variable as u64;
@@ -97,7 +97,7 @@ fn step_overlap(o: StepOverlap) -> Fields
 
 fn broken(b: Broken) -> Fields
     ensures { λ r. ⌜ listed r ≡ 14 ∷ b .assertion ∷ b .state ∷ b .input .variable ∷ b .input .value ∷ [] ⌝ }
-    ensures { λ r. ⌜ r .count ≤ 7 ⌝ }
+    ensures { λ r. ⌜ AtMostSeven r ⌝ }
 {
     let assertion = b.assertion as u64;
     let state = b.state as u64;
@@ -112,7 +112,7 @@ fn broken(b: Broken) -> Fields
 // Document 01's number of a refusal, then what it carries.
 pub fn refusal(q: Refusal) -> Fields
     ensures { λ r. ⌜ listed r ≡ numbersOf q ⌝ }
-    ensures { λ r. ⌜ r .count ≤ 7 ⌝ }
+    ensures { λ r. ⌜ AtMostSeven r ⌝ }
 {
     match q {
         Refusal::Length(n) => two(1, n as u64),

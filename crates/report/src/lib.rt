@@ -2,3 +2,4 @@
 mod decimal; // decimal numbers into a buffer
 mod fields; // the numbers of a line
 mod input; // bytes to words
+mod lines; // lines into a buffer
