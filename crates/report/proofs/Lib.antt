@@ -2,3 +2,6 @@ pub mod Words
 pub mod Numbers
 pub mod Listing
 pub mod Printing
+pub mod Parting
+pub mod Counting
+pub mod Running
