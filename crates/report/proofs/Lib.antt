@@ -5,3 +5,4 @@ pub mod Printing
 pub mod Parting
 pub mod Counting
 pub mod Running
+pub mod Reporting

@@ -1,12 +1,10 @@
 // The words of the input, lowest byte first.
+use crate::MAX_INPUT_WORDS;
 ghost use mathlib.Core.Path.{_≡_};
 ghost use Prim.Native.Nat.{ℕ, _<_, _≤_};
 ghost use lib.ListN.{length, take};
 ghost use Rattle.meaning.specs.Program.{inputWord, inputWords};
 ghost use Rattle.report.specs.Input.{wordCount};
-
-// The words of the input that are looked at.
-const MAX_INPUT_WORDS: usize = 8192;
 
 fn wide(b: u8) -> u32
     ensures { λ r. ⌜ r ≡ b ⌝ }
