@@ -1,13 +1,12 @@
-//! How many inputs of each call there were and how many answers of each kind.
+//! How many inputs of each group there were, a call of the probe or an ending of the program, and how many answers of each kind.
 
-use oracle::probe;
+use crate::compare::Oracle;
 use std::collections::BTreeMap;
 use std::fmt;
 
 #[derive(Clone, Debug, Default)]
 pub struct Counts {
-    /// By the number of the call, 0 standing for none.
-    pairs: BTreeMap<(u32, Answer), usize>,
+    pairs: BTreeMap<(&'static str, Answer), usize>,
 }
 
 /// What an output's first line says: its name, the number of a refusal, and what else tells kinds of answers apart.
@@ -19,8 +18,9 @@ pub struct Answer {
 }
 
 impl Counts {
-    pub fn add(&mut self, input: &[u8], output: &str) {
-        *self.pairs.entry((call_of(input), Answer::of(output))).or_default() += 1;
+    pub fn add(&mut self, oracle: Oracle, input: &[u8], output: &[u8]) {
+        let output = String::from_utf8_lossy(output);
+        *self.pairs.entry(((oracle.group)(input, &output), Answer::of(&output))).or_default() += 1;
     }
 
     /// How many answers of a kind there were, the kind as it is printed.
@@ -28,7 +28,12 @@ impl Counts {
         self.pairs.iter().filter(|((_, answer), _)| answer.to_string() == kind).map(|(_, count)| count).sum()
     }
 
-    fn sums<Key: Ord>(&self, key: impl Fn(&(u32, Answer)) -> Key) -> BTreeMap<Key, usize> {
+    /// How many inputs of a group there were.
+    pub fn of_group(&self, group: &str) -> usize {
+        self.pairs.iter().filter(|((of, _), _)| *of == group).map(|(_, count)| count).sum()
+    }
+
+    fn sums<Key: Ord>(&self, key: impl Fn(&(&'static str, Answer)) -> Key) -> BTreeMap<Key, usize> {
         let mut sums = BTreeMap::new();
         for (pair, count) in &self.pairs {
             *sums.entry(key(pair)).or_default() += count;
@@ -72,23 +77,34 @@ impl fmt::Display for Counts {
         for (answer, count) in self.sums(|(_, answer)| answer.clone()) {
             writeln!(f, "{:16}{count:8}", answer.to_string())?;
         }
-        for (call, count) in self.sums(|(call, _)| *call) {
-            let answers = self.pairs.iter().filter(|((of, _), _)| *of == call);
+        for (group, count) in self.sums(|(group, _)| *group) {
+            let answers = self.pairs.iter().filter(|((of, _), _)| *of == group);
             let answers: Vec<String> = answers.map(|((_, answer), count)| format!("{answer}: {count}")).collect();
-            writeln!(f, "{:16}{count:8} ({})", call_name(call), answers.join(", "))?;
+            writeln!(f, "{group:16}{count:8} ({})", answers.join(", "))?;
         }
         Ok(())
     }
 }
 
-fn call_of(input: &[u8]) -> u32 {
+/// The name of the call that an input of the probe makes.
+pub fn call_of(input: &[u8]) -> &'static str {
     let mut word = [0; 4];
     word.iter_mut().zip(input).for_each(|(byte, &read)| *byte = read);
-    let number = u32::from_le_bytes(word);
-    if (probe::START..=probe::CHECK).contains(&number) {
-        return number;
+    call_name(u32::from_le_bytes(word))
+}
+
+/// What the program printed after the line of the set.
+pub fn ending_of(output: &str) -> &'static str {
+    let mut lines = output.lines();
+    let passed = lines.next().is_some_and(|line| line.starts_with("PASS"));
+    match lines.last() {
+        _ if !passed => "not run",
+        None => "no events",
+        Some(line) if line.starts_with("REFUSE 16") => "not enabled",
+        Some(line) if line.starts_with("REFUSE 17") => "too many events",
+        Some(line) if line.starts_with("REFUSE") => "another refusal",
+        Some(_) => "all done",
     }
-    0
 }
 
 /// The calls by number, from 1 on.
@@ -106,6 +122,7 @@ pub fn call_number(name: &str) -> Option<u32> {
 #[cfg(test)]
 mod tests {
     use super::*;
+    use oracle::probe;
 
     #[test]
     fn kinds_of_answers() {
@@ -128,8 +145,17 @@ mod tests {
 
     #[test]
     fn calls_of_inputs() {
-        assert_eq!(call_of(&[2, 0, 0, 0, 9]), probe::STEP);
-        assert_eq!(call_of(&[2]), probe::STEP);
-        assert_eq!([call_of(&[]), call_of(&[7]), call_of(&[1, 1])], [0; 3]);
+        assert_eq!(call_of(&[2, 0, 0, 0, 9]), "step");
+        assert_eq!(call_of(&[2]), "step");
+        assert_eq!([call_of(&[]), call_of(&[7]), call_of(&[1, 1])], ["no call"; 3]);
+    }
+
+    #[test]
+    fn endings_of_outputs() {
+        assert_eq!(ending_of("REFUSE 1 0\n"), "not run");
+        assert_eq!(ending_of("PASS 12 24 1\n"), "no events");
+        assert_eq!(ending_of("PASS 12 24 1\n0 0 1 1\n"), "all done");
+        assert_eq!(ending_of("PASS 12 24 1\n0 0 1 1\nREFUSE 16 1\n"), "not enabled");
+        assert_eq!(ending_of("PASS 12 24 1\nREFUSE 17 4097\n"), "too many events");
     }
 }

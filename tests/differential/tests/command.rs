@@ -28,6 +28,14 @@ fn one_call_alone() {
 }
 
 #[test]
+fn the_program_alone() {
+    let output = differential(&["/bin/true", "1", "20", "program"]);
+    assert_eq!(output.status.code(), Some(1));
+    let printed = printed(&output);
+    assert!(printed.contains("20 inputs, 20 differences"), "{printed}");
+}
+
+#[test]
 fn a_program_that_fails_or_is_not_there_differs() {
     for program in ["/bin/false", "/no/such/program"] {
         assert_eq!(differential(&[program, "1", "3"]).status.code(), Some(1));

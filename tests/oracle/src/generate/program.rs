@@ -10,9 +10,14 @@ use crate::write;
 
 /// Any list of events, of at most so many words; now and then a broken word at the end.
 pub fn input(random: &mut Random, words: &[u32], most_events: usize) -> Vec<u8> {
+    let length = calls::list_length(random).min(most_events);
+    input_of_length(random, words, length)
+}
+
+/// The same with so many events.
+pub fn input_of_length(random: &mut Random, words: &[u32], length: usize) -> Vec<u8> {
     let set = read(words).ok();
     let initial = set.as_ref().map_or(0, initial_state);
-    let length = calls::list_length(random).min(most_events);
     let events = calls::course(random, set.as_ref(), initial, length);
     let mut bytes = to_bytes(&[words, &events].concat());
     if random.chance(12) {

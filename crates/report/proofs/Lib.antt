@@ -1,0 +1,8 @@
+pub mod Words
+pub mod Numbers
+pub mod Listing
+pub mod Printing
+pub mod Parting
+pub mod Counting
+pub mod Running
+pub mod Reporting

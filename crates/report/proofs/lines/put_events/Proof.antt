@@ -1,0 +1,71 @@
+use borrow.Author.Needs.{needs}
+use Rattle.report.proofs.Printing.{events-on, events-end}
+use mathlib.Core.Path.{_≡_, refl}
+use mathlib.Core.List.{_++_}
+use Prim.Native.Nat.{_≤_, _+_, _-_, _*_}
+use lib.ListN.{length, drop}
+use Rattle.meaning.specs.Program.{eventLines}
+use Rattle.report.specs.Text.{upTo}
+use Rattle.report.proofs.lines.put_events.Statement.{statement}
+use Rattle.report.proofs.lines.put_events.Tie as tie
+use Rattle.report.proofs.lines.put_events.Reads as reads
+use Rattle.report.proofs.lines.put_events.Lts as lts
+use Rattle.report.proofs.lines.put_event.Reads as put-event-reads
+
+abbrev Inv-loop : tie.InvT-loop
+Inv-loop out₀ at events states on₀ i₀ i-end out on i = (i ≤ length states) × (on ≤ at + i * 84) × (length out ≡ length out₀) × (upTo on out ++ eventLines i events (drop i states) ≡ upTo at out₀ ++ eventLines 0 events states)
+
+abbrev μ-loop : tie.MeasureT-loop
+μ-loop out₀ at events states on₀ i₀ i-end out on i = length states - i
+
+-- src/lines.rt:105:5
+loop-holds : tie.Need-loop-holds Inv-loop μ-loop
+loop-holds c = (search needs, search needs, refl, refl)
+
+-- src/lines.rt:106:44
+mul-put-event : tie.Need-mul-put-event Inv-loop μ-loop
+mul-put-event c = search needs
+
+-- src/lines.rt:106:44
+shared-slice-read-put-event : tie.Need-shared-slice-read-put-event Inv-loop μ-loop
+shared-slice-read-put-event c = search needs
+
+-- src/lines.rt:106:9
+put-event-requires : tie.Need-put-event-requires Inv-loop μ-loop
+put-event-requires c κs = search needs
+
+-- src/lines.rt:105:9
+add-i : tie.Need-add-i Inv-loop μ-loop
+add-i c = search needs
+
+-- src/lines.rt:105:5
+loop-less : tie.Need-loop-less Inv-loop μ-loop
+loop-less c = search needs
+
+-- src/lines.rt:105:5
+loop-again : tie.Need-loop-again Inv-loop μ-loop
+loop-again c = (search needs, search needs, search needs, search events-on)
+
+-- src/lines.rt:99:1
+same-length : tie.Need-same-length Inv-loop μ-loop
+same-length c = search needs
+
+-- src/lines.rt:99:1
+returns : tie.Need-returns Inv-loop μ-loop
+returns c = (search events-end, search needs)
+
+pub put-events-spec : {M : Type 1} → statement M
+put-events-spec =
+    tie.close
+    (tie.spec
+    Inv-loop
+    μ-loop
+    loop-holds
+    mul-put-event
+    shared-slice-read-put-event
+    put-event-requires
+    add-i
+    loop-less
+    loop-again
+    same-length
+    returns)

@@ -1,0 +1,5 @@
+pub mod Input
+pub mod Text
+pub mod Lines
+pub mod Runs
+pub mod Whole

@@ -1,0 +1,65 @@
+// All that the program prints, made by one function of the bytes of its input.
+mod decimal; // decimal numbers into a buffer
+mod fields; // the numbers of a line
+mod input; // bytes to words
+mod lines; // lines into a buffer
+mod parts; // parts of lists of words
+mod runs; // the lines of a run
+
+use crate::lines::put_pass;
+use crate::lines::put_refusal;
+use crate::runs::put_run;
+use scr::Verdict;
+ghost use mathlib.Core.Path.{_≡_};
+ghost use Prim.Native.Nat.{ℕ, _≤_};
+ghost use lib.ListN.{length, take, drop};
+ghost use Rattle.meaning.specs.Check.{checkOf};
+ghost use Rattle.meaning.specs.Program.{printed, programOf};
+ghost use Rattle.report.specs.Text.{upTo};
+ghost use Rattle.report.specs.Whole.{printedOf};
+
+// The words of the input that are looked at, and their bytes.
+const MAX_INPUT_WORDS: usize = 8192;
+
+pub const MAX_INPUT: usize = 32768;
+
+// The longest output is 4,098 lines: PASS, 4,096 events, REFUSE. A number has at most 20 digits, so a line of an event has at most 84 bytes
+// and each of the two others at most 154.
+pub const MAX_OUTPUT: usize = 344372;
+
+// What is printed of a set and its events. "A set that check refuses is not run."
+fn put_set(out: &mut [u8], set: &[u32], events: &[u32]) -> usize
+    requires { ⌜ 344372 ≤ length (now out) ⌝ }
+    ensures { λ r. ⌜ upTo r (now (out .exit)) ≡ printed (now (set .entry)) (now (events .entry)) (checkOf (now (set .entry))) ⌝ }
+    ensures { λ r. ⌜ r ≤ 344372 ⌝ }
+{
+    let verdict = scr::check(set);
+    match verdict {
+        Verdict::Pass(c) => {
+            let at = put_pass(out, 0, c);
+            put_run(out, at, set, events)
+        }
+        Verdict::Refused(q) => put_refusal(out, 0, q),
+    }
+}
+
+// "Words from the first of kind 11 on are events."
+fn put_words(out: &mut [u8], words: &[u32]) -> usize
+    requires { ⌜ 344372 ≤ length (now out) ⌝ }
+    ensures { λ r. ⌜ upTo r (now (out .exit)) ≡ printedOf (now (words .entry)) ⌝ }
+    ensures { λ r. ⌜ r ≤ 344372 ⌝ }
+{
+    let k = parts::first_event(words);
+    put_set(out, &words[0..k], &words[k..])
+}
+
+// What the program prints, at the front of `out`; how many bytes.
+pub fn report(bytes: &[u8], out: &mut [u8]) -> usize
+    requires { ⌜ 344372 ≤ length (now out) ⌝ }
+    ensures { λ r. ⌜ take r (now (out .exit)) ≡ programOf (now (bytes .entry)) ⌝ }
+    ensures { λ r. ⌜ (r ≤ length (now (out .exit))) × (r ≡ length (take r (now (out .exit)))) ⌝ }
+{
+    let mut words = [0u32; MAX_INPUT_WORDS];
+    let n = input::fill(bytes, &mut words);
+    put_words(out, &words[0..n])
+}
