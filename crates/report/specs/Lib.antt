@@ -3,3 +3,4 @@ pub mod Text
 pub mod Lines
 pub mod Runs
 pub mod Whole
+pub mod Beyond

@@ -1,0 +1,44 @@
+-- Input beyond the words that are looked at changes nothing that is printed: a program may read so many bytes and no more.
+use mathlib.Core.Path.{_≡_, refl}
+use mathlib.Core.List.{List}
+use Prim.Native.Nat.{ℕ, zero, suc, _+_, _*_, _/_, _<_, _≤_, min}
+use native.Mathlib.Omega.{arith}
+use native.Mathlib.Decide.{decLe}
+use lib.ListN.{length, take}
+use lib.Seq.{take-all, length-take-le, getD-take}
+use borrow.Author.Tests.{le-leb}
+use Rattle.meaning.specs.Searches.{listOf}
+use Rattle.meaning.specs.Host.{wordOfBytes}
+use Rattle.meaning.specs.Program.{inputWord, inputWords, programOf}
+
+list-same : (f g : ℕ → ℕ) (n : ℕ) → ((i : ℕ) → i < n → f i ≡ g i) → listOf f n ≡ listOf g n
+unfolding listOf
+list-same f g zero h = refl
+list-same f g (suc n) h = rw (list-same f g n (λ i l. h i (omega arith)), h n (omega arith))
+
+-- a word that ends within the first m bytes
+word-same : (bs : List ℕ) (m i : ℕ) → i * 4 + 4 ≤ m → m ≤ length bs → inputWord (take m bs) i ≡ inputWord bs i
+unfolding inputWord wordOfBytes
+word-same bs m i h l =
+    let a : i * 4 + 4 ≤ length (take m bs) = omega (arith, length-take-le m bs l) in
+    let b : i * 4 + 4 ≤ length bs = omega arith in
+    rw (
+      le-leb (i * 4 + 4) (length (take m bs)) a,
+      le-leb (i * 4 + 4) (length bs) b,
+      getD-take m bs (i * 4) 0 (omega arith),
+      getD-take m bs (i * 4 + 1) 0 (omega arith),
+      getD-take m bs (i * 4 + 2) 0 (omega arith),
+      getD-take m bs (i * 4 + 3) 0 (omega arith),
+    )
+
+words-same : (bs : List ℕ) (m : ℕ) → m ≡ 32768 → m ≤ length bs → inputWords (take m bs) ≡ inputWords bs
+unfolding inputWords
+words-same bs m e l =
+    let a : min 8192 ((length (take m bs) + 3) / 4) ≡ 8192 = omega (arith, length-take-le m bs l) in
+    let b : min 8192 ((length bs + 3) / 4) ≡ 8192 = omega arith in
+    rw (a, b) (list-same (inputWord (take m bs)) (inputWord bs) 8192 (λ i h. word-same bs m i (omega arith) l))
+
+pub beyond-ignored : (bs : List ℕ) → programOf (take 32768 bs) ≡ programOf bs
+unfolding programOf
+beyond-ignored bs =
+    elim (decLe (length bs) 32768) [ yes h ↦ rw (take-all 32768 bs h) | no h ↦ rw (words-same bs 32768 refl (omega arith)) ]
