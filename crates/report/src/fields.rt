@@ -17,7 +17,17 @@ pub struct Fields {
     pub count: usize,
 }
 
-fn two(a: u64, b: u64) -> Fields
+pub fn one(a: u64) -> Fields
+    ensures { λ r. ⌜ listed r ≡ a ∷ [] ⌝ }
+    ensures { λ r. ⌜ AtMostSeven r ⌝ }
+{
+    Fields {
+        numbers: [a, 0, 0, 0, 0, 0, 0],
+        count: 1,
+    }
+}
+
+pub fn two(a: u64, b: u64) -> Fields
     ensures { λ r. ⌜ listed r ≡ a ∷ b ∷ [] ⌝ }
     ensures { λ r. ⌜ AtMostSeven r ⌝ }
 {

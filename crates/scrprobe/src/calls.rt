@@ -1,11 +1,11 @@
 // Each call, its effect put into a buffer. Each function gives the place after what it put.
-use crate::fields;
 use crate::input::words_from;
 use crate::least;
 use crate::text::put_line;
 use crate::text::put_values;
 use crate::text::put_words;
 use index::word_at;
+use report::fields;
 use scr::Answer;
 use scr::Count;
 use scr::Verdict;

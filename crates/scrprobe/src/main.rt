@@ -12,7 +12,6 @@
 // then for run and values a line with the whole lent list, whose elements are 4294967295 and 238 before the call. Another call prints
 // nothing.
 mod calls; // each call and its lines
-mod fields; // the numbers of a line
 mod input; // bytes to words
 mod text; // text into a buffer
 

@@ -1,6 +1,6 @@
 // Text put into a buffer from a place on. Each function gives the place after what it put; past the end of the buffer nothing is put.
-use crate::fields::Fields;
 use crate::least;
+use report::fields::Fields;
 use word::Value;
 
 fn put(out: &mut [u8], at: usize, byte: u8) -> usize {
