@@ -7,6 +7,7 @@ seed. Both must give the answer that a set is built for. Times are of the proces
 five runs, or of a single one where it takes more than ten seconds."""
 import argparse
 import random
+import shutil
 import resource
 import statistics
 import subprocess
@@ -64,6 +65,9 @@ def main():
     unknown = [name for name in options.sets if name not in SETS]
     if unknown:
         parser.error(f"no such set: {' '.join(unknown)}")
+    for command in (options.program.split(), options.oracle.split()):
+        if shutil.which(command[0]) is None:
+            parser.error(f"{command[0]} is not there: run `rt check scrprobe`, and `cargo build --offline --release` in tests/oracle")
     for name in options.sets or SETS:
         compare(name, options.seed, [options.program.split(), options.oracle.split()])
 

@@ -4,6 +4,7 @@ use crate::lines::put_refusal;
 use crate::parts::front;
 use scr::Answer;
 use scr::Refusal;
+use word::MAX_EVENTS;
 ghost use mathlib.Core.Path.{_≡_};
 ghost use mathlib.Core.List.{_++_};
 ghost use Prim.Native.Nat.{ℕ, _+_, _*_, _≤_};
@@ -13,9 +14,6 @@ ghost use Rattle.meaning.specs.Program.{runFromStart};
 ghost use Rattle.scr.specs.Answers.{refusalSays, answerSays};
 ghost use Rattle.report.specs.Text.{upTo};
 ghost use Rattle.report.specs.Runs.{Passed, doneBefore, ranLines};
-
-// A run keeps one state an event, so it takes a lent list of as many as it may have events.
-const MAX_EVENTS: usize = 4096;
 
 // How many events were done before a refusal, in a run of a set that passes: there only an event word that is not enabled (16) ends a run
 // that has begun, and it carries its index.
@@ -52,6 +50,7 @@ pub fn put_run(out: &mut [u8], at: usize, set: &[u32], events: &[u32]) -> usize
     let initial = scr::start(set);
     match initial {
         Answer::State(s) => {
+            // A run writes one state an event.
             let mut states = [0u32; MAX_EVENTS];
             let answer = scr::run(set, s, events, &mut states, 0);
             put_ran(out, at, events, &states, answer)

@@ -4,6 +4,7 @@ use crate::Refusal;
 use crate::refusals;
 use simulator::run::Ended;
 use simulator::run::run_events;
+use word::MAX_EVENTS;
 use word::Value;
 ghost use mathlib.Core.Path.{_≡_};
 ghost use Prim.Native.Nat.{ℕ, _-_, _≤_};
@@ -12,9 +13,6 @@ ghost use lib.Seq.{sets};
 ghost use Rattle.simulator.specs.RunIndex.{runIndex};
 ghost use Rattle.scr.specs.Answers.{answerSays};
 ghost use Rattle.scr.specs.Indexed.{ranIn};
-
-// The limit that a run alone needs, as the definitions of crate `word` name it.
-const MAX_EVENTS: usize = 4096;
 
 // The elements from the place on.
 fn room_from(all: usize, place: usize) -> usize

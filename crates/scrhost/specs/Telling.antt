@@ -10,32 +10,22 @@ use lib.ListN.{length}
 use Rattle.meaning.specs.Answers.{Outcome, ok, refuse, _>>=_, demand}
 use Rattle.meaning.specs.Check.{Counts, checkOf}
 use Rattle.meaning.specs.Steps.{stepOf}
-use Rattle.meaning.specs.Passes.{Refused, refusal-1-to-8, refusal-9, refusal-10, refusal-11, refusal-12, refusal-13, refusal-14}
 use Rattle.meaning.specs.Host.{wordsOfBytes, hostWords, passed, stepped, hostCheckOf, hostStepOf}
 use Rattle.theory.specs.Found.{ok-not-refuse, refuse-same, bind-ok}
 use Rattle.theory.specs.WellRead.{read-well-formed, states-few}
 use Rattle.theory.specs.Orders.{order-exists}
 use Rattle.theory.specs.Valuations.{valuation-typed}
-use Rattle.theory.specs.CheckExactly.{check-refuses-exactly}
+use Rattle.theory.specs.Demand1Holds.{demand-1}
 use Rattle.theory.specs.StepExactly.{step-exactly}
 
 -- ---- check
-refusal-positive : {ws : List ℕ} {n : ℕ} {xs : List ℕ} → Refused ws n xs → 1 ≤ n
-refusal-positive (refusal-1-to-8 l k e) = l
-refusal-positive (refusal-9 z e w n c) = omega arith
-refusal-positive (refusal-10 z r s v f) = omega arith
-refusal-positive (refusal-11 z r s v i j f) = omega arith
-refusal-positive (refusal-12 z r a s e v i j f) = omega arith
-refusal-positive (refusal-13 z r a b j f) = omega arith
-refusal-positive (refusal-14 z r a b j s e f) = omega arith
-
 host-positive : (bs : List ℕ) (n : ℕ) (xs : List ℕ) → (hostWords bs >>= λ ws. checkOf ws) ≡ refuse n xs → 1 ≤ n
 unfolding hostWords
 host-positive bs n xs = go (eqb (length bs % 4) 0)
   where
     go : (b : Bool)
         → (demand b 1 (length bs ∷ []) >>= (λ _. ok (wordsOfBytes bs (length bs / 4) 0)) >>= λ ws. checkOf ws) ≡ refuse n xs → 1 ≤ n
-    go true e = refusal-positive (check-refuses-exactly _ n xs .0 e)
+    go true e = let d = demand-1 .check (wordsOfBytes bs (length bs / 4) 0) in d .numbered n xs (d .refuses n xs .0 e) .0
     go false e = omega (arith, refuse-same e .0)
 
 pass-told : {A : Type 0} (m : Outcome A) → ((n : ℕ) (xs : List ℕ) → m ≡ refuse n xs → 1 ≤ n) → (passed m ≡ 0) ↔ ((a : A) × (m ≡ ok a))
