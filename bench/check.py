@@ -7,8 +7,8 @@ seed. Both must give the answer that a set is built for. Times are of the proces
 five runs, or of a single one where it takes more than ten seconds."""
 import argparse
 import random
-import shutil
 import resource
+import shutil
 import statistics
 import subprocess
 import sys
