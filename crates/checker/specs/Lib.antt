@@ -1,3 +1,2 @@
-pub mod Assertions
 pub mod Sweeps
 pub mod Checked

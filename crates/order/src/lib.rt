@@ -17,9 +17,9 @@ ghost use Rattle.order.specs.Masks.{bitIn, oneBit, conditionMask, eventM
 ghost use Rattle.order.specs.Orders.{covered, untakenBy, readyBy, leastReady, foundOf, orderBy, takenBy, leastStuck, stuckRead, moveBy, shownBy, backBy, cycleSaid, cycleBy, orderAt, noCycleAt};
 
 // What a formula reads, and the place after it.
-struct Masked {
-    mask: u32,
-    next: usize,
+pub struct Masked {
+    pub mask: u32,
+    pub next: usize,
 }
 
 // The mask of variable v alone; none from 32 on, as for 255, the class of a table without one.
@@ -41,7 +41,7 @@ fn bit(m: u32, b: usize) -> bool
 
 // ---- what a table reads
 // The variables that the condition at a place tests. `left` levels may still stand.
-fn condition_mask(words: &[u32], at: usize, left: usize) -> Masked
+pub fn condition_mask(words: &[u32], at: usize, left: usize) -> Masked
     ensures { λ r. ⌜ r ≡ conditionMask (now (words .entry)) left at ⌝ }
 {
     if left == 0 {
@@ -72,7 +72,7 @@ fn condition_mask(words: &[u32], at: usize, left: usize) -> Masked
 }
 
 // The variables that the event at a place tests inside c of a change. Tests in d read the past, so only d's end is wanted.
-fn event_mask(words: &[u32], at: usize, left: usize) -> Masked
+pub fn event_mask(words: &[u32], at: usize, left: usize) -> Masked
     ensures { λ r. ⌜ r ≡ eventMask (now (words .entry)) left at ⌝ }
 {
     if left == 0 {
@@ -138,7 +138,7 @@ fn rows_mask(words: &[u32], t: u32, at: usize, first: u32) -> u32
 }
 
 // What variable v reads. A table of type 3 reads the class that its table word names, whatever its rows' modes.
-fn table_mask(words: &[u32], places: &[usize], v: usize) -> u32
+pub fn table_mask(words: &[u32], places: &[usize], v: usize) -> u32
     ensures { λ r. ⌜ r ≡ tableMask (now (words .entry)) (getD (now (places .entry)) v 0) ⌝ }
 {
     let p = place_of(places, v);

@@ -1,12 +1,12 @@
 use borrow.Author.Needs.{needs}
-use Rattle.checker.proofs.Laws.{count-start, count-end, count-on, count-all}
+use Rattle.assertions.proofs.Laws.{count-start, count-end, count-on, count-all}
 use Prim.Native.Nat.{_≤_, _-_, _+_}
 use mathlib.Core.Path.{_≡_}
-use Rattle.checker.specs.Assertions.{countFrom}
-use Rattle.checker.proofs.assertions.count_assertions.Statement.{statement}
-use Rattle.checker.proofs.assertions.count_assertions.Tie as tie
-use Rattle.checker.proofs.assertions.count_assertions.Reads as reads
-use Rattle.checker.proofs.assertions.count_assertions.Lts as lts
+use Rattle.assertions.specs.Assertions.{countFrom}
+use Rattle.assertions.proofs.count_assertions.Statement.{statement}
+use Rattle.assertions.proofs.count_assertions.Tie as tie
+use Rattle.assertions.proofs.count_assertions.Reads as reads
+use Rattle.assertions.proofs.count_assertions.Lts as lts
 use Rattle.judge.proofs.judge.Reads as judge-reads
 
 abbrev Inv-loop : tie.InvT-loop
@@ -15,35 +15,35 @@ Inv-loop words values at on₀ j₀ on j = (j ≤ 32) × (j + countFrom words va
 abbrev μ-loop : tie.MeasureT-loop
 μ-loop words values at on₀ j₀ on j = 32 - j
 
--- src/assertions.rt:15:5
+-- src/lib.rt:15:5
 loop-holds : tie.Need-loop-holds Inv-loop μ-loop
 loop-holds c = (search needs, search count-start)
 
--- src/assertions.rt:17:13
+-- src/lib.rt:17:13
 returns : tie.Need-returns Inv-loop μ-loop
 returns c = search count-end
 
--- src/assertions.rt:19:38
+-- src/lib.rt:19:38
 add-judge : tie.Need-add-judge Inv-loop μ-loop
 add-judge c = search needs
 
--- src/assertions.rt:19:13
+-- src/lib.rt:19:13
 judge-requires : tie.Need-judge-requires Inv-loop μ-loop
 judge-requires c κs = search needs
 
--- src/assertions.rt:15:9
+-- src/lib.rt:15:9
 add-j : tie.Need-add-j Inv-loop μ-loop
 add-j c = search needs
 
--- src/assertions.rt:15:5
+-- src/lib.rt:15:5
 loop-less : tie.Need-loop-less Inv-loop μ-loop
 loop-less c = search needs
 
--- src/assertions.rt:15:5
+-- src/lib.rt:15:5
 loop-again : tie.Need-loop-again Inv-loop μ-loop
 loop-again c = (search needs, search count-on)
 
--- src/assertions.rt:11:1
+-- src/lib.rt:11:1
 returns-2 : tie.Need-returns-2 Inv-loop μ-loop
 returns-2 c = search count-all
 

@@ -5,7 +5,7 @@ use word::MAX_DEPTH;
 use word::Value;
 ghost use mathlib.Core.Path.{_≡_};
 ghost use Rattle.word.specs.Limits as Max;
-ghost use Rattle.checker.specs.Assertions.{countFrom, falseFrom};
+ghost use Rattle.assertions.specs.Assertions.{countFrom, falseFrom};
 
 // How many there are. Where a formula ends does not depend on the values.
 pub fn count_assertions(words: &[u32], values: &[Value], at: usize) -> usize
