@@ -23,7 +23,7 @@ pub struct Masked {
 }
 
 // The mask of variable v alone; none from 32 on, as for 255, the class of a table without one.
-fn one_bit(v: usize) -> u32
+pub fn one_bit(v: usize) -> u32
     ensures { λ r. ⌜ r ≡ oneBit v ⌝ }
 {
     if 32 <= v {
@@ -32,7 +32,7 @@ fn one_bit(v: usize) -> u32
     1u32 << v
 }
 
-fn bit(m: u32, b: usize) -> bool
+pub fn bit(m: u32, b: usize) -> bool
     requires { ⌜ b < 32 ⌝ }
     ensures { λ r. ⌜ r ≡ bitIn m b ⌝ }
 {
@@ -156,7 +156,7 @@ pub fn table_mask(words: &[u32], places: &[usize], v: usize) -> u32
 }
 
 // The masks of all variables. Past the last variable there is no table and the mask is 0.
-fn fill_masks(words: &[u32], places: &[usize], masks: &mut [u32])
+pub fn fill_masks(words: &[u32], places: &[usize], masks: &mut [u32])
     requires { ⌜ length (now masks) ≡ 32 ⌝ }
     ensures { λ r. ⌜ now (masks .exit) ≡ masksAt (now (words .entry)) (now (places .entry)) ⌝ }
 {
@@ -166,7 +166,7 @@ fn fill_masks(words: &[u32], places: &[usize], masks: &mut [u32])
 }
 
 // ---- the dependency order; `taken` is the mask of the variables taken so far
-fn mask_of(masks: &[u32], v: usize) -> u32
+pub fn mask_of(masks: &[u32], v: usize) -> u32
     ensures { λ r. ⌜ r ≡ getD (now (masks .entry)) v 0 ⌝ }
 {
     if v < masks.len() { masks[v] } else { 0 }
