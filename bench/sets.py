@@ -3,8 +3,12 @@
 The rows of a condition table divide the states: their conditions are the leaves of a tree of tests. Of the rows of a mode or event table no
 two hold in one step: one event alters one input, so rows of one mode differ in the input whose change they wait for, or in the
 direction of the change, or their WHEN conditions are leaves of one tree."""
-from words import CONDITION_TABLE, CONTROLLED, EVENT_TABLE, MODE_CLASS, MODE_TABLE, MONITORED, NONE, TERM
+from words import CONDITION_TABLE, CONTROLLED, EVENT_TABLE, FALSE, MODE_CLASS, MODE_TABLE, MONITORED, NONE, TERM, TRUE
 from words import assertion, at_most, both, either, equals, every, falls, no, rises, row, table, variable
+
+
+def implies(first, second):
+    return either(no(first), second)
 
 
 class Sheet:
@@ -13,6 +17,7 @@ class Sheet:
     def __init__(self, random):
         self.random = random
         self.sizes, self.variables, self.tables, self.assertions = [], [], [], []
+        self.sayings = []  # what each row of a condition table says: true in every state
 
     def add(self, kind, size):
         self.variables.append(variable(kind, size))
@@ -49,8 +54,9 @@ class Sheet:
         rows = [(self.any_value(name), leaf) for leaf in self.leaves(names, count)]
         for value, leaf in rows:
             self.tables += row(NONE, value, leaf)
-        value, leaf = rows[0]
-        return either(no(leaf), equals(name, value))
+        sayings = [implies(leaf, equals(name, value)) for value, leaf in rows]
+        self.sayings += sayings
+        return sayings[0]
 
     def condition_table_by_mode(self, name, mode, names, counts):
         """As many rows of each mode. Gives what the first row says."""
@@ -58,12 +64,9 @@ class Sheet:
         rows = [(m, self.any_value(name), leaf) for m, count in enumerate(counts) for leaf in self.leaves(names, count)]
         for m, value, leaf in rows:
             self.tables += row(m, value, leaf)
-        m, value, leaf = rows[0]
-        return either(no(both(equals(mode, m), leaf)), equals(name, value))
-
-
-def implies(first, second):
-    return either(no(first), second)
+        sayings = [implies(both(equals(mode, m), leaf), equals(name, value)) for m, value, leaf in rows]
+        self.sayings += sayings
+        return sayings[0]
 
 
 def pair(random):
@@ -124,11 +127,16 @@ class Shift:
         self.guards = {m: equals(self.inputs[m - 1], 1) for m in (1, 2, 3)}
         self.armed = equals(self.inputs[3], 1)
 
-    def words(self, late):
+    def make_tables(self, late=False):
+        """Gives what the first row of each condition table says."""
         said = [self.condition_table(place) for place in range(len(self.others))]
         self.mode_table()
         self.event_table(self.cutting, equals(self.mode, 2), [falls(equals(self.mode, 2))])
         self.latch_table(late)
+        return said
+
+    def words(self, late):
+        said = self.make_tables(late)
         for m, guard in self.guards.items():
             self.sheet.demand(implies(equals(self.mode, m), guard))
         self.sheet.demand(implies(equals(self.cutting, 1), equals(self.mode, 2)))
@@ -186,4 +194,60 @@ def late(random):
     return Shift(random).words(late=True), 851968, "REFUSE 14 9 65532 5 0"
 
 
-SETS = {"pair": pair, "mix": mix, "shift": shift, "bool16": bool16, "late": late}
+def full(random):
+    """The shift's tables, and 32 assertions that fill the set to its 4,096 words. Each says what some rows say, which is true in every state; every
+    other one also has a part that only the steps keep."""
+    shift = Shift(random)
+    shift.make_tables()
+    kept = [implies(equals(shift.mode, m), guard) for m, guard in shift.guards.items()]
+    kept += [implies(equals(shift.cutting, 1), equals(shift.mode, 2)), implies(equals(shift.latch, 1), shift.armed)]
+    for j in range(32):
+        room = (4096 - len(shift.sheet.words())) // (32 - j)
+        shift.sheet.demand(long_condition(random, [random.choice(kept)] if j % 2 else [], shift.sheet.sayings, room - 1))
+    return shift.sheet.words(), 851968, "PASS 65536 851968 32"
+
+
+def long_condition(random, parts, sayings, room):
+    """The parts and as many sayings as fit, in just so many words."""
+
+    def length(parts):
+        return sum(len(part) + 1 for part in parts) - 1
+
+    # At the end five or so words are left, in which parts of two and three go that are always true.
+    while fitting := [saying for saying in sayings if length([*parts, saying]) in (room, *range(room - 1))]:
+        parts = [*parts, random.choice(fitting)]
+    while (left := room - length(parts)) > 0:
+        parts = [*parts, no(FALSE) if left == 3 else TRUE]
+    return every(parts)
+
+
+def grown(random, inputs, size, tables):
+    """So many inputs of one size, a mode class of 4 and so many condition tables of 24 rows, by mode; the mode table has a row for each of these.
+    An assertion of what each says, and one that mode 1 has a guard: it is left as soon as the guard falls, and entered only where it is up."""
+    sheet = Sheet(random)
+    names = [sheet.add(MONITORED, size) for _ in range(inputs)]
+    mode = sheet.add(MODE_CLASS, 4)
+    tests = [equals(name, 1) if size == 2 else at_most(name, size // 2 - 1) for name in names]
+    sheet.tables.append(table(MODE_TABLE, mode, mode))
+    for place in range(tables):
+        m, turn = place % 4, place // 4
+        which = (turn + (m != 1)) % inputs
+        change = falls if (turn // inputs + (which == 0)) % 2 else rises
+        leaf = sheet.leaves(names, 2)[0]
+        if m == 1 and turn == 0:
+            sheet.tables += row(1, 0, falls(tests[0]))
+        elif m == 0 and which != 0:
+            sheet.tables += row(0, 1, change(tests[which], both(tests[0], leaf)))
+        else:
+            sheet.tables += row(m, [2, 2, 3, 0][m], change(tests[which], leaf))
+    sheet.demand(implies(equals(mode, 1), tests[0]))
+    outputs = []
+    for _ in range(tables):
+        outputs.append(sheet.add(CONTROLLED, random.choice([2, 3, 4])))
+        sheet.demand(sheet.condition_table_by_mode(outputs[-1], mode, names + outputs[:-1], [6] * 4))
+    states = size**inputs * 4
+    steps = states * inputs * (size - 1)
+    return sheet.words(), steps, f"PASS {states} {steps} {tables + 1}"
+
+
+SETS = {"pair": pair, "mix": mix, "shift": shift, "bool16": bool16, "late": late, "full": full}

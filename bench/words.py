@@ -53,6 +53,11 @@ def falls(condition, when=TRUE):
     return [0x82000000] + condition + when
 
 
+def event(variable, value):
+    """An input event, for runs and steps."""
+    return 0xB0000000 | variable << 20 | value
+
+
 def every(conditions):
     """All of a list, divided evenly to stay shallow."""
     if not conditions:
