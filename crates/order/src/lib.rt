@@ -138,7 +138,7 @@ fn rows_mask(words: &[u32], t: u32, at: usize, first: u32) -> u32
 }
 
 // What variable v reads. A table of type 3 reads the class that its table word names, whatever its rows' modes.
-pub fn table_mask(words: &[u32], places: &[usize], v: usize) -> u32
+fn table_mask(words: &[u32], places: &[usize], v: usize) -> u32
     ensures { λ r. ⌜ r ≡ tableMask (now (words .entry)) (getD (now (places .entry)) v 0) ⌝ }
 {
     let p = place_of(places, v);
