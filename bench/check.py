@@ -12,7 +12,7 @@ import sys
 
 import spin
 from promela import SHAPES
-from sets import SETS
+from sets import NAMED_ONLY, SETS
 from timing import RUNS, median
 from words import call
 
@@ -26,7 +26,7 @@ def line(name, seconds, ours, steps, runs, what="steps", more=""):
 
 
 def compare(name, seed, commands, shapes):
-    words, steps, answer = SETS[name](random.Random(seed))
+    words, steps, answer = {**SETS, **NAMED_ONLY}[name](random.Random(seed))
     data = call(CHECK, words)
     print(f"{name}: {len(words):,} words, {steps:,} steps, {answer}", flush=True)
     ours = None
@@ -52,14 +52,14 @@ def compare_spin(words, shape, refused, ours, to_the_end=False):
 
 def main():
     parser = argparse.ArgumentParser(description="How long check takes.")
-    parser.add_argument("sets", nargs="*", metavar="SET", help="of " + ", ".join(SETS))
+    parser.add_argument("sets", nargs="*", metavar="SET", help="of " + ", ".join([*SETS, *NAMED_ONLY]))
     parser.add_argument("--seed", type=int, default=1)
     parser.add_argument("--program", default="target/bin/scrprobe")
     parser.add_argument("--fast", default="tests/oracle/target/release/oracle check-fast")
     parser.add_argument("--naive", default="tests/oracle/target/release/oracle probe")
     parser.add_argument("--without", nargs="*", default=[], choices=["fast", "naive", "spin"], help="leave these out")
     options = parser.parse_args()
-    unknown = [name for name in options.sets if name not in SETS]
+    unknown = [name for name in options.sets if name not in SETS and name not in NAMED_ONLY]
     if unknown:
         parser.error(f"no such set: {' '.join(unknown)}")
     commands = {"ours": options.program.split(), "oracle, fast": options.fast.split(), "oracle, naive": options.naive.split()}

@@ -250,4 +250,24 @@ def grown(random, inputs, size, tables):
     return sheet.words(), steps, f"PASS {states} {steps} {tables + 1}"
 
 
+def hard(random):
+    """Made to cost much: two inputs of 256 values, and 32 assertions that are always true and test nearly every value, up to the limit of words."""
+    sheet = Sheet(random)
+    first, second = sheet.add(MONITORED, 256), sheet.add(MONITORED, 256)
+    for j in range(32):
+        tests = [equals(first, (8 * j + k) % 256) if k % 2 else equals(second, (24 * j + k) % 256) for k in range(61)]
+        sheet.demand(some([*tests, no(tests[0])]))
+    return sheet.words(), 33423360, "PASS 65536 33423360 32"
+
+
+def some(conditions):
+    """Their disjunction, as shallow as it goes."""
+    while len(conditions) > 1:
+        pairs = [conditions[k : k + 2] for k in range(0, len(conditions), 2)]
+        conditions = [either(*pair) if len(pair) == 2 else pair[0] for pair in pairs]
+    return conditions[0]
+
+
 SETS = {"pair": pair, "mix": mix, "shift": shift, "bool16": bool16, "late": late, "full": full}
+# The oracle takes very long on these: they are timed only if they are named.
+NAMED_ONLY = {"hard": hard}

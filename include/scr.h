@@ -46,7 +46,7 @@ extern "C" {
 
 /*
  * Whether the set may be loaded: 0, or the number of the refusal, 1 to 14. All states and all steps of the set count. A set of 65,536 states
- * usually takes less than a tenth of a second, one made to be hard can take seconds (docs/SPEED.md).
+ * and 200 rows takes well under a second; one made to be hard took ten seconds (docs/SPEED.md).
  */
 uint32_t scr_check(const uint8_t *bytes, size_t length);
 
