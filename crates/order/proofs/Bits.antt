@@ -77,7 +77,7 @@ pow-other v b h =
       | no l ↦ let g : v < b = omega arith in rw (div-eq-of-lt (pow-lt g))
     ]
 
-bit-power : (v b : ℕ) → bitIn (2 ^ v) b ≡ eqb b v
+pub bit-power : (v b : ℕ) → bitIn (2 ^ v) b ≡ eqb b v
 unfolding bitIn
 bit-power v b =
     elim (ℕ-discrete b v) [

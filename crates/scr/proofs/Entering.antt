@@ -29,6 +29,7 @@ use Rattle.state.proofs.Means.{count-is, initial-number}
 use Rattle.simulator.specs.StepIndex.{stepIndex, examined}
 use Rattle.simulator.specs.RunIndex.{runIndex}
 use Rattle.simulator.proofs.Means.{values-means, step-means, run-means}
+use Rattle.lanes.specs.Cleared.{Known}
 use Rattle.checker.proofs.Means.{check-means, events-mean}
 use Rattle.part.specs.Part.{startAt, endAt}
 use Rattle.part.proofs.Laws.{part-is, part-none}
@@ -200,6 +201,21 @@ module _ (ws ps us os : List ℕ) (o : O.Opened) (h : OpenedAs ws o ps us os) wh
     pub start-set : (t : ℕ) → t ≡ initialNumber ws ps us n % 4294967296 → answerSays (A.State t) ≡ startOf ws
     unfolding OpenedAs answerSays
     start-set t et = let p = rw e at h in rw et (sym (start-said ws (p .0) n a c ps us os (p .1)))
+
+    pub set-known : Known ws ps us (take (n - 0) (drop 0 os)) n a c
+    unfolding OpenedAs
+    set-known =
+        let p = rw e at h in
+        record {
+          set = p .0;
+          indexed = p .1 .typed .indexed;
+          formed = well ws (p .0) n a c ps us os (p .1);
+          weighed = p .1 .typed .weights-are;
+          ordered = part-of-order ∙ p .1 .order-is;
+          acyclic = p .1 .acyclic;
+          states = p .1 .typed .states-are;
+          few = rw (p .1 .typed .states-are) (few ws (p .0) n a c ps us os (p .1));
+        }
 
     pub check-set : (r : Verdict) → verdictSays r ≡ I.verdictIn ws ps us (take (n - 0) (drop 0 os)) n a c → verdictSays r ≡ checkOf ws
     unfolding OpenedAs

@@ -1,4 +1,4 @@
-use Rattle.scr.proofs.Entering.{index-few, states-room, order-room, check-refused, check-set}
+use Rattle.scr.proofs.Entering.{index-few, states-room, set-known, order-room, check-refused, check-set}
 use Rattle.scr.proofs.Demanded.{check-demand, demand-2}
 use borrow.Author.Needs.{needs}
 use Rattle.scr.proofs.check.Statement.{statement}
@@ -54,7 +54,7 @@ part-verdict-end c = search order-room
 
 -- src/lib.rt:143:33
 verdict-requires : tie.Need-verdict-requires
-verdict-requires c κs = (search index-few, search states-room)
+verdict-requires c κs = (search index-few, search states-room, search set-known)
 
 -- src/lib.rt:133:1
 returns : tie.Need-returns
