@@ -260,6 +260,17 @@ def hard(random):
     return sheet.words(), 33423360, "PASS 65536 33423360 32"
 
 
+def hard_events(random):
+    """Made to cost much in every step: inputs of 256 and 128 values, and an event table of rows that never hold but whose changes test nearly every value."""
+    sheet = Sheet(random)
+    first, second, term = sheet.add(MONITORED, 256), sheet.add(MONITORED, 128), sheet.add(TERM, 2)
+    sheet.tables.append(table(EVENT_TABLE, term))
+    for j in range(32):
+        tests = [equals(first, (8 * j + k) % 256) if k % 2 else equals(second, (12 * j + k) % 128) for k in range(61)]
+        sheet.tables += row(NONE, 1, rises(some([*tests, no(tests[0])])))
+    return sheet.words(), 25034752, "PASS 65536 25034752 0"
+
+
 def some(conditions):
     """Their disjunction, as shallow as it goes."""
     while len(conditions) > 1:
@@ -270,4 +281,4 @@ def some(conditions):
 
 SETS = {"pair": pair, "mix": mix, "shift": shift, "bool16": bool16, "late": late, "full": full}
 # The oracle takes very long on these: they are timed only if they are named.
-NAMED_ONLY = {"hard": hard}
+NAMED_ONLY = {"hard": hard, "hard-events": hard_events}
