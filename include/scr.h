@@ -9,7 +9,7 @@
  * else is asked of a caller. Every content and every length has an answer. The bytes are only read, and not after the return.
  *
  * No state is kept between calls: both functions give the same answer for the same arguments, and threads may call them at the same time,
- * on the same bytes too as long as nobody writes to them. No heap is used; scr_check takes about 200 KiB of stack, scr_step about 24 KiB. Both
+ * on the same bytes too as long as nobody writes to them. No heap is used; scr_check takes up to about 280 KiB of stack, scr_step about 24 KiB. Both
  * always return.
  *
  * Refusals, by their numbers:
@@ -45,8 +45,8 @@ extern "C" {
 #define SCR_REFUSED UINT32_C(0x80000000)
 
 /*
- * Whether the set may be loaded: 0, or the number of the refusal, 1 to 14. All states and all steps of the set count. A set of 65,536 states
- * and 200 rows takes well under a second; one made to be hard took ten seconds (docs/SPEED.md).
+ * Whether the set may be loaded: 0, or the number of the refusal, 1 to 14. All states and all steps of the set count. The largest sets that
+ * were timed take some hundredths of a second (docs/SPEED.md); no time is promised.
  */
 uint32_t scr_check(const uint8_t *bytes, size_t length);
 
