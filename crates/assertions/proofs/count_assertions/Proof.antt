@@ -15,35 +15,27 @@ Inv-loop words values at on₀ j₀ on j = (j ≤ 32) × (j + countFrom words va
 abbrev μ-loop : tie.MeasureT-loop
 μ-loop words values at on₀ j₀ on j = 32 - j
 
--- src/lib.rt:15:5
 loop-holds : tie.Need-loop-holds Inv-loop μ-loop
 loop-holds c = (search needs, search count-start)
 
--- src/lib.rt:17:13
 returns : tie.Need-returns Inv-loop μ-loop
 returns c = search count-end
 
--- src/lib.rt:19:38
 add-judge : tie.Need-add-judge Inv-loop μ-loop
 add-judge c = search needs
 
--- src/lib.rt:19:13
 judge-requires : tie.Need-judge-requires Inv-loop μ-loop
 judge-requires c κs = search needs
 
--- src/lib.rt:15:9
 add-j : tie.Need-add-j Inv-loop μ-loop
 add-j c = search needs
 
--- src/lib.rt:15:5
 loop-less : tie.Need-loop-less Inv-loop μ-loop
 loop-less c = search needs
 
--- src/lib.rt:15:5
 loop-again : tie.Need-loop-again Inv-loop μ-loop
 loop-again c = (search needs, search count-on)
 
--- src/lib.rt:11:1
 returns-2 : tie.Need-returns-2 Inv-loop μ-loop
 returns-2 c = search count-all
 

@@ -15,39 +15,30 @@ Inv-loop words values at most on₀ j₀ on j = (j ≤ most) × (j + falseFrom w
 abbrev μ-loop : tie.MeasureT-loop
 μ-loop words values at most on₀ j₀ on j = most - j
 
--- src/lib.rt:30:5
 loop-holds : tie.Need-loop-holds Inv-loop μ-loop
 loop-holds c = (search needs, search false-start)
 
--- src/lib.rt:32:13
 returns : tie.Need-returns Inv-loop μ-loop
 returns c = search false-end
 
--- src/lib.rt:34:38
 add-judge : tie.Need-add-judge Inv-loop μ-loop
 add-judge c = search needs
 
--- src/lib.rt:34:13
 judge-requires : tie.Need-judge-requires Inv-loop μ-loop
 judge-requires c κs = search needs
 
--- src/lib.rt:36:13
 returns-2 : tie.Need-returns-2 Inv-loop μ-loop
 returns-2 c = search false-here
 
--- src/lib.rt:30:9
 add-j : tie.Need-add-j Inv-loop μ-loop
 add-j c = search needs
 
--- src/lib.rt:30:5
 loop-less : tie.Need-loop-less Inv-loop μ-loop
 loop-less c = search needs
 
--- src/lib.rt:30:5
 loop-again : tie.Need-loop-again Inv-loop μ-loop
 loop-again c = (search needs, search false-on)
 
--- src/lib.rt:26:1
 returns-3 : tie.Need-returns-3 Inv-loop μ-loop
 returns-3 c = search false-all
 

@@ -26,67 +26,51 @@ judge-below t = and 2 judge-kinds.ps (falls 2 judge-kinds.ps _<_ μ-judge t) jud
 abbrev calls : ℕ → judge-lts.Claims
 calls t = (word-at-reads.Asked, word-at-reads.Learnt, kind-reads.Asked, kind-reads.Learnt, holds-reads.Asked, holds-reads.Learnt, truth-reads.Asked, truth-reads.Learnt, judge-below t, judge.Post, joined-reads.Asked, joined-reads.Learnt)
 
--- src/lib.rt:61:9
 judge-returns : (t : ℕ) → judge-lts.Need-returns (calls t) (judge-at t) judge.Post
 judge-returns t c = search judge-laws
 
--- src/lib.rt:67:9
 judge-returns-2 : (t : ℕ) → judge-lts.Need-returns-2 (calls t) (judge-at t) judge.Post
 judge-returns-2 t c = search judge-laws
 
--- src/lib.rt:72:9
 judge-word-at-requires : (t : ℕ) → judge-lts.Need-word-at-requires (calls t) (judge-at t) judge.Post
 judge-word-at-requires t c κs = search needs
 
--- src/lib.rt:73:14
 judge-add-on : (t : ℕ) → judge-lts.Need-add-on (calls t) (judge-at t) judge.Post
 judge-add-on t c = search needs
 
--- src/lib.rt:74:13
 judge-sub-d : (t : ℕ) → judge-lts.Need-sub-d (calls t) (judge-at t) judge.Post
 judge-sub-d t c = search needs
 
--- src/lib.rt:75:9
 judge-kind-requires : (t : ℕ) → judge-lts.Need-kind-requires (calls t) (judge-at t) judge.Post
 judge-kind-requires t c κs = search needs
 
--- src/lib.rt:78:20
 judge-holds-requires : (t : ℕ) → judge-lts.Need-holds-requires (calls t) (judge-at t) judge.Post
 judge-holds-requires t c κs = search needs
 
--- src/lib.rt:82:20
 judge-truth-requires : (t : ℕ) → judge-lts.Need-truth-requires (calls t) (judge-at t) judge.Post
 judge-truth-requires t c κs = search needs
 
--- src/lib.rt:86:17
 judge-judge-requires : (t : ℕ) → judge-lts.Need-judge-requires (calls t) (judge-at t) judge.Post
 judge-judge-requires t c κs = search needs
 
--- src/lib.rt:93:17
 judge-judge-requires-2 : (t : ℕ) → judge-lts.Need-judge-requires-2 (calls t) (judge-at t) judge.Post
 judge-judge-requires-2 t c κs = search needs
 
--- src/lib.rt:94:17
 judge-judge-requires-3 : (t : ℕ) → judge-lts.Need-judge-requires-3 (calls t) (judge-at t) judge.Post
 judge-judge-requires-3 t c κs = search needs
 
--- src/lib.rt:96:24
 judge-joined-requires : (t : ℕ) → judge-lts.Need-joined-requires (calls t) (judge-at t) judge.Post
 judge-joined-requires t c κs = search needs
 
--- src/lib.rt:57:1
 judge-returns-3 : (t : ℕ) → judge-lts.Need-returns-3 (calls t) (judge-at t) judge.Post
 judge-returns-3 t c = search judge-laws
 
--- src/lib.rt:57:1
 judge-returns-4 : (t : ℕ) → judge-lts.Need-returns-4 (calls t) (judge-at t) judge.Post
 judge-returns-4 t c = search judge-laws
 
--- src/lib.rt:57:1
 judge-returns-5 : (t : ℕ) → judge-lts.Need-returns-5 (calls t) (judge-at t) judge.Post
 judge-returns-5 t c = search judge-laws
 
--- src/lib.rt:57:1
 judge-returns-6 : (t : ℕ) → judge-lts.Need-returns-6 (calls t) (judge-at t) judge.Post
 judge-returns-6 t c = search judge-laws
 

@@ -26,51 +26,39 @@ judge-event-below t =
 abbrev calls : ℕ → judge-event-lts.Claims
 calls t = (word-at-reads.Asked, word-at-reads.Learnt, kind-reads.Asked, kind-reads.Learnt, judge-event-below t, judge-event.Post, judge-change-reads.Asked, judge-change-reads.Learnt)
 
--- src/lib.rt:146:9
 judge-event-returns : (t : ℕ) → judge-event-lts.Need-returns (calls t) (judge-event-at t) judge-event.Post
 judge-event-returns t c = search event-laws
 
--- src/lib.rt:152:9
 judge-event-returns-2 : (t : ℕ) → judge-event-lts.Need-returns-2 (calls t) (judge-event-at t) judge-event.Post
 judge-event-returns-2 t c = search event-laws
 
--- src/lib.rt:157:9
 judge-event-word-at-requires : (t : ℕ) → judge-event-lts.Need-word-at-requires (calls t) (judge-event-at t) judge-event.Post
 judge-event-word-at-requires t c κs = search needs
 
--- src/lib.rt:158:14
 judge-event-add-on : (t : ℕ) → judge-event-lts.Need-add-on (calls t) (judge-event-at t) judge-event.Post
 judge-event-add-on t c = search needs
 
--- src/lib.rt:159:13
 judge-event-sub-d : (t : ℕ) → judge-event-lts.Need-sub-d (calls t) (judge-event-at t) judge-event.Post
 judge-event-sub-d t c = search needs
 
--- src/lib.rt:160:9
 judge-event-kind-requires : (t : ℕ) → judge-event-lts.Need-kind-requires (calls t) (judge-event-at t) judge-event.Post
 judge-event-kind-requires t c κs = search needs
 
--- src/lib.rt:167:17
 judge-event-judge-event-requires : (t : ℕ) → judge-event-lts.Need-judge-event-requires (calls t) (judge-event-at t) judge-event.Post
 judge-event-judge-event-requires t c κs = search needs
 
--- src/lib.rt:168:17
 judge-event-judge-event-requires-2 : (t : ℕ) → judge-event-lts.Need-judge-event-requires-2 (calls t) (judge-event-at t) judge-event.Post
 judge-event-judge-event-requires-2 t c κs = search needs
 
--- src/lib.rt:174:14
 judge-event-judge-change-requires : (t : ℕ) → judge-event-lts.Need-judge-change-requires (calls t) (judge-event-at t) judge-event.Post
 judge-event-judge-change-requires t c κs = search needs
 
--- src/lib.rt:136:1
 judge-event-returns-3 : (t : ℕ) → judge-event-lts.Need-returns-3 (calls t) (judge-event-at t) judge-event.Post
 judge-event-returns-3 t c = search event-laws
 
--- src/lib.rt:136:1
 judge-event-returns-4 : (t : ℕ) → judge-event-lts.Need-returns-4 (calls t) (judge-event-at t) judge-event.Post
 judge-event-returns-4 t c = search event-laws
 
--- src/lib.rt:136:1
 judge-event-returns-5 : (t : ℕ) → judge-event-lts.Need-returns-5 (calls t) (judge-event-at t) judge-event.Post
 judge-event-returns-5 t c = search event-laws
 

@@ -5,31 +5,24 @@ use Rattle.judge.proofs.add_row.Tie as tie
 use Rattle.judge.proofs.add_row.Reads as reads
 use Rattle.judge.proofs.add_row.Lts as lts
 
--- src/lib.rt:191:9
 returns : tie.Need-returns
 returns c = search add-laws
 
--- src/lib.rt:194:25
 enum-told : tie.Need-enum-told
 enum-told c = search needs
 
--- src/lib.rt:195:18
 enum-known-got : tie.Need-enum-known-got
 enum-known-got c = search needs
 
--- src/lib.rt:196:18
 enum-known-got-2 : tie.Need-enum-known-got-2
 enum-known-got-2 c = search needs
 
--- src/lib.rt:187:1
 returns-2 : tie.Need-returns-2
 returns-2 c = search add-laws
 
--- src/lib.rt:187:1
 returns-3 : tie.Need-returns-3
 returns-3 c = search add-laws
 
--- src/lib.rt:187:1
 returns-4 : tie.Need-returns-4
 returns-4 c = search add-laws
 

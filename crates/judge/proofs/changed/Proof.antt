@@ -5,11 +5,9 @@ use Rattle.judge.proofs.changed.Tie as tie
 use Rattle.judge.proofs.changed.Reads as reads
 use Rattle.judge.proofs.changed.Lts as lts
 
--- src/lib.rt:105:1
 returns : tie.Need-returns
 returns c = search change-true
 
--- src/lib.rt:105:1
 returns-2 : tie.Need-returns-2
 returns-2 c = search change-false
 

@@ -9,31 +9,24 @@ use Rattle.word.proofs.given.Reads as given-reads
 use Rattle.word.proofs.relation.Reads as relation-reads
 use Rattle.word.proofs.variable.Reads as variable-reads
 
--- src/lib.rt:44:30
 variable-requires : tie.Need-variable-requires
 variable-requires c κs = search needs
 
--- src/lib.rt:44:30
 cast-value-of : tie.Need-cast-value-of
 cast-value-of c = search needs
 
--- src/lib.rt:44:9
 value-of-requires : tie.Need-value-of-requires
 value-of-requires c κs = search needs
 
--- src/lib.rt:45:9
 given-requires : tie.Need-given-requires
 given-requires c κs = search needs
 
--- src/lib.rt:46:8
 relation-requires : tie.Need-relation-requires
 relation-requires c κs = search needs
 
--- src/lib.rt:41:1
 returns : tie.Need-returns
 returns c = search test-equal
 
--- src/lib.rt:41:1
 returns-2 : tie.Need-returns-2
 returns-2 c = search test-most
 

@@ -7,15 +7,12 @@ use Rattle.judge.proofs.is_row.Lts as lts
 use Rattle.index.proofs.word_at.Reads as word-at-reads
 use Rattle.word.proofs.kind.Reads as kind-reads
 
--- src/lib.rt:212:10
 word-at-requires : tie.Need-word-at-requires
 word-at-requires c κs = search needs
 
--- src/lib.rt:212:5
 kind-requires : tie.Need-kind-requires
 kind-requires c κs = search needs
 
--- src/lib.rt:209:1
 returns : tie.Need-returns
 returns c = search row-law
 

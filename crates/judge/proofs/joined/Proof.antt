@@ -5,11 +5,9 @@ use Rattle.judge.proofs.joined.Tie as tie
 use Rattle.judge.proofs.joined.Reads as reads
 use Rattle.judge.proofs.joined.Lts as lts
 
--- src/lib.rt:50:1
 returns : tie.Need-returns
 returns c = search join-and
 
--- src/lib.rt:50:1
 returns-2 : tie.Need-returns-2
 returns-2 c = search join-or
 

@@ -8,27 +8,21 @@ use Rattle.judge.proofs.changed.Reads as changed-reads
 use Rattle.judge.proofs.judge.Reads as judge-reads
 use Rattle.word.proofs.sort.Reads as sort-reads
 
--- src/lib.rt:126:9
 judge-requires : tie.Need-judge-requires
 judge-requires c κs = search needs
 
--- src/lib.rt:127:9
 judge-requires-2 : tie.Need-judge-requires-2
 judge-requires-2 c κs = search needs
 
--- src/lib.rt:128:9
 judge-requires-3 : tie.Need-judge-requires-3
 judge-requires-3 c κs = search needs
 
--- src/lib.rt:130:24
 sort-requires : tie.Need-sort-requires
 sort-requires c κs = search needs
 
--- src/lib.rt:130:16
 changed-requires : tie.Need-changed-requires
 changed-requires c κs = search needs
 
--- src/lib.rt:116:1
 returns : tie.Need-returns
 returns c = search change-law
 

@@ -5,7 +5,6 @@ use Rattle.judge.proofs.mode_is.Tie as tie
 use Rattle.judge.proofs.mode_is.Reads as reads
 use Rattle.judge.proofs.mode_is.Lts as lts
 
--- src/lib.rt:180:1
 returns : tie.Need-returns
 returns c = search mode-law
 

@@ -9,23 +9,18 @@ use Rattle.judge.proofs.mode_is.Reads as mode-is-reads
 use Rattle.word.proofs.given.Reads as given-reads
 use Rattle.word.proofs.mode.Reads as mode-reads
 
--- src/lib.rt:204:21
 mode-requires : tie.Need-mode-requires
 mode-requires c κs = search needs
 
--- src/lib.rt:204:9
 mode-is-requires : tie.Need-mode-is-requires
 mode-is-requires c κs = search needs
 
--- src/lib.rt:205:32
 given-requires : tie.Need-given-requires
 given-requires c κs = search needs
 
--- src/lib.rt:205:5
 add-row-requires : tie.Need-add-row-requires
 add-row-requires c κs = search needs
 
--- src/lib.rt:201:1
 returns : tie.Need-returns
 returns c = search with-law
 

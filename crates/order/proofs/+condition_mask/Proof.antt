@@ -35,47 +35,36 @@ condition-mask-below t =
 abbrev calls : ℕ → condition-mask-lts.Claims
 calls t = (word-at-reads.Asked, word-at-reads.Learnt, kind-reads.Asked, kind-reads.Learnt, variable-reads.Asked, variable-reads.Learnt, one-bit-reads.Asked, one-bit-reads.Learnt, condition-mask-below t, condition-mask.Post)
 
--- src/lib.rt:46:9
 condition-mask-returns : (t : ℕ) → condition-mask-lts.Need-returns (calls t) (condition-mask-at t) condition-mask.Post
 condition-mask-returns t c = search (needs, condition-laws)
 
--- src/lib.rt:49:9
 condition-mask-returns-2 : (t : ℕ) → condition-mask-lts.Need-returns-2 (calls t) (condition-mask-at t) condition-mask.Post
 condition-mask-returns-2 t c = search (needs, condition-laws)
 
--- src/lib.rt:51:9
 condition-mask-word-at-requires : (t : ℕ) → condition-mask-lts.Need-word-at-requires (calls t) (condition-mask-at t) condition-mask.Post
 condition-mask-word-at-requires t c κs = search (needs, condition-laws)
 
--- src/lib.rt:52:14
 condition-mask-add-on : (t : ℕ) → condition-mask-lts.Need-add-on (calls t) (condition-mask-at t) condition-mask.Post
 condition-mask-add-on t c = search (needs, condition-laws)
 
--- src/lib.rt:53:13
 condition-mask-sub-d : (t : ℕ) → condition-mask-lts.Need-sub-d (calls t) (condition-mask-at t) condition-mask.Post
 condition-mask-sub-d t c = search (needs, condition-laws)
 
--- src/lib.rt:54:11
 condition-mask-kind-requires : (t : ℕ) → condition-mask-lts.Need-kind-requires (calls t) (condition-mask-at t) condition-mask.Post
 condition-mask-kind-requires t c κs = search (needs, condition-laws)
 
--- src/lib.rt:56:27
 condition-mask-variable-requires : (t : ℕ) → condition-mask-lts.Need-variable-requires (calls t) (condition-mask-at t) condition-mask.Post
 condition-mask-variable-requires t c κs = search (needs, condition-laws)
 
--- src/lib.rt:56:27
 condition-mask-cast-one-bit : (t : ℕ) → condition-mask-lts.Need-cast-one-bit (calls t) (condition-mask-at t) condition-mask.Post
 condition-mask-cast-one-bit t c = search (needs, condition-laws)
 
--- src/lib.rt:56:19
 condition-mask-one-bit-requires : (t : ℕ) → condition-mask-lts.Need-one-bit-requires (calls t) (condition-mask-at t) condition-mask.Post
 condition-mask-one-bit-requires t c κs = search (needs, condition-laws)
 
--- src/lib.rt:60:14
 condition-mask-condition-mask-requires : (t : ℕ) → condition-mask-lts.Need-condition-mask-requires (calls t) (condition-mask-at t) condition-mask.Post
 condition-mask-condition-mask-requires t c κs = search (needs, condition-laws)
 
--- src/lib.rt:62:17
 condition-mask-condition-mask-requires-2 :
     (t : ℕ) → condition-mask-lts.Need-condition-mask-requires-2 (
       word-at-reads.Asked,
@@ -91,7 +80,6 @@ condition-mask-condition-mask-requires-2 :
     ) (condition-mask-at t) condition-mask.Post
 condition-mask-condition-mask-requires-2 t c κs = search (needs, condition-laws)
 
--- src/lib.rt:63:17
 condition-mask-condition-mask-requires-3 :
     (t : ℕ) → condition-mask-lts.Need-condition-mask-requires-3 (
       word-at-reads.Asked,
@@ -107,19 +95,15 @@ condition-mask-condition-mask-requires-3 :
     ) (condition-mask-at t) condition-mask.Post
 condition-mask-condition-mask-requires-3 t c κs = search (needs, condition-laws)
 
--- src/lib.rt:42:1
 condition-mask-returns-3 : (t : ℕ) → condition-mask-lts.Need-returns-3 (calls t) (condition-mask-at t) condition-mask.Post
 condition-mask-returns-3 t c = search (needs, condition-laws)
 
--- src/lib.rt:42:1
 condition-mask-returns-4 : (t : ℕ) → condition-mask-lts.Need-returns-4 (calls t) (condition-mask-at t) condition-mask.Post
 condition-mask-returns-4 t c = search (needs, condition-laws)
 
--- src/lib.rt:42:1
 condition-mask-returns-5 : (t : ℕ) → condition-mask-lts.Need-returns-5 (calls t) (condition-mask-at t) condition-mask.Post
 condition-mask-returns-5 t c = search (needs, condition-laws)
 
--- src/lib.rt:42:1
 condition-mask-returns-6 : (t : ℕ) → condition-mask-lts.Need-returns-6 (calls t) (condition-mask-at t) condition-mask.Post
 condition-mask-returns-6 t c = search (needs, condition-laws)
 

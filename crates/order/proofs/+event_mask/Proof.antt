@@ -26,55 +26,42 @@ event-mask-below t =
 abbrev calls : ℕ → event-mask-lts.Claims
 calls t = (word-at-reads.Asked, word-at-reads.Learnt, kind-reads.Asked, kind-reads.Learnt, event-mask-below t, event-mask.Post, condition-mask-reads.Asked, condition-mask-reads.Learnt)
 
--- src/lib.rt:77:9
 event-mask-returns : (t : ℕ) → event-mask-lts.Need-returns (calls t) (event-mask-at t) event-mask.Post
 event-mask-returns t c = search (needs, event-laws)
 
--- src/lib.rt:80:9
 event-mask-returns-2 : (t : ℕ) → event-mask-lts.Need-returns-2 (calls t) (event-mask-at t) event-mask.Post
 event-mask-returns-2 t c = search (needs, event-laws)
 
--- src/lib.rt:82:9
 event-mask-word-at-requires : (t : ℕ) → event-mask-lts.Need-word-at-requires (calls t) (event-mask-at t) event-mask.Post
 event-mask-word-at-requires t c κs = search (needs, event-laws)
 
--- src/lib.rt:83:14
 event-mask-add-on : (t : ℕ) → event-mask-lts.Need-add-on (calls t) (event-mask-at t) event-mask.Post
 event-mask-add-on t c = search (needs, event-laws)
 
--- src/lib.rt:84:13
 event-mask-sub-d : (t : ℕ) → event-mask-lts.Need-sub-d (calls t) (event-mask-at t) event-mask.Post
 event-mask-sub-d t c = search (needs, event-laws)
 
--- src/lib.rt:85:11
 event-mask-kind-requires : (t : ℕ) → event-mask-lts.Need-kind-requires (calls t) (event-mask-at t) event-mask.Post
 event-mask-kind-requires t c κs = search (needs, event-laws)
 
--- src/lib.rt:88:17
 event-mask-event-mask-requires : (t : ℕ) → event-mask-lts.Need-event-mask-requires (calls t) (event-mask-at t) event-mask.Post
 event-mask-event-mask-requires t c κs = search (needs, event-laws)
 
--- src/lib.rt:89:17
 event-mask-event-mask-requires-2 : (t : ℕ) → event-mask-lts.Need-event-mask-requires-2 (calls t) (event-mask-at t) event-mask.Post
 event-mask-event-mask-requires-2 t c κs = search (needs, event-laws)
 
--- src/lib.rt:96:17
 event-mask-condition-mask-requires : (t : ℕ) → event-mask-lts.Need-condition-mask-requires (calls t) (event-mask-at t) event-mask.Post
 event-mask-condition-mask-requires t c κs = search (needs, event-laws)
 
--- src/lib.rt:97:17
 event-mask-condition-mask-requires-2 : (t : ℕ) → event-mask-lts.Need-condition-mask-requires-2 (calls t) (event-mask-at t) event-mask.Post
 event-mask-condition-mask-requires-2 t c κs = search (needs, event-laws)
 
--- src/lib.rt:73:1
 event-mask-returns-3 : (t : ℕ) → event-mask-lts.Need-returns-3 (calls t) (event-mask-at t) event-mask.Post
 event-mask-returns-3 t c = search (needs, event-laws)
 
--- src/lib.rt:73:1
 event-mask-returns-4 : (t : ℕ) → event-mask-lts.Need-returns-4 (calls t) (event-mask-at t) event-mask.Post
 event-mask-returns-4 t c = search (needs, event-laws)
 
--- src/lib.rt:73:1
 event-mask-returns-5 : (t : ℕ) → event-mask-lts.Need-returns-5 (calls t) (event-mask-at t) event-mask.Post
 event-mask-returns-5 t c = search (needs, event-laws)
 

@@ -16,31 +16,24 @@ Inv-loop m taken n b₀ b = (b ≤ n) × (covered m taken b ≡ true)
 abbrev μ-loop : tie.MeasureT-loop
 μ-loop m taken n b₀ b = n - b
 
--- src/lib.rt:194:5
 loop-holds : tie.Need-loop-holds Inv-loop μ-loop
 loop-holds c = (search needs, search covered-start)
 
--- src/lib.rt:195:12
 missing-requires : tie.Need-missing-requires Inv-loop μ-loop
 missing-requires c κs = search needs
 
--- src/lib.rt:196:13
 returns : tie.Need-returns Inv-loop μ-loop
 returns c = search covered-no
 
--- src/lib.rt:194:9
 add-b : tie.Need-add-b Inv-loop μ-loop
 add-b c = search needs
 
--- src/lib.rt:194:5
 loop-less : tie.Need-loop-less Inv-loop μ-loop
 loop-less c = search needs
 
--- src/lib.rt:194:5
 loop-again : tie.Need-loop-again Inv-loop μ-loop
 loop-again c = (search needs, search covered-on)
 
--- src/lib.rt:190:1
 returns-2 : tie.Need-returns-2 Inv-loop μ-loop
 returns-2 c = search covered-all
 

@@ -5,15 +5,12 @@ use Rattle.order.proofs.bit.Tie as tie
 use Rattle.order.proofs.bit.Reads as reads
 use Rattle.order.proofs.bit.Lts as lts
 
--- src/lib.rt:37:11
 cast-result : tie.Need-cast-result
 cast-result c = search needs
 
--- src/lib.rt:37:6
 shr-result : tie.Need-shr-result
 shr-result c = search needs
 
--- src/lib.rt:33:1
 returns : tie.Need-returns
 returns c = search bit-is
 

@@ -15,39 +15,30 @@ Inv-loop words places masks₀ v₀ masks v = (v ≤ 32) × (length masks ≡ 32
 abbrev μ-loop : tie.MeasureT-loop
 μ-loop words places masks₀ v₀ masks v = 32 - v
 
--- src/lib.rt:161:5
 loop-holds : tie.Need-loop-holds Inv-loop μ-loop
 loop-holds c = (search needs, search needs, search masks-none)
 
--- src/lib.rt:162:20
 table-mask-requires : tie.Need-table-mask-requires Inv-loop μ-loop
 table-mask-requires c κs = search needs
 
--- src/lib.rt:162:9
 mul-masks : tie.Need-mul-masks Inv-loop μ-loop
 mul-masks c = search needs
 
--- src/lib.rt:162:9
 slice-write-masks : tie.Need-slice-write-masks Inv-loop μ-loop
 slice-write-masks c = search needs
 
--- src/lib.rt:161:9
 add-v : tie.Need-add-v Inv-loop μ-loop
 add-v c = search needs
 
--- src/lib.rt:161:5
 loop-less : tie.Need-loop-less Inv-loop μ-loop
 loop-less c = search needs
 
--- src/lib.rt:161:5
 loop-again : tie.Need-loop-again Inv-loop μ-loop
 loop-again c = (search needs, simp length-set (search needs), search masks-on)
 
--- src/lib.rt:157:1
 same-length : tie.Need-same-length Inv-loop μ-loop
 same-length c = search needs
 
--- src/lib.rt:157:1
 returns : tie.Need-returns Inv-loop μ-loop
 returns c = search masks-all
 

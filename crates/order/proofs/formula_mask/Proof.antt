@@ -7,19 +7,15 @@ use Rattle.order.proofs.formula_mask.Lts as lts
 use Rattle.order.proofs.condition_mask.Reads as condition-mask-reads
 use Rattle.order.proofs.event_mask.Reads as event-mask-reads
 
--- src/lib.rt:111:9
 condition-mask-requires : tie.Need-condition-mask-requires
 condition-mask-requires c κs = search needs
 
--- src/lib.rt:113:9
 event-mask-requires : tie.Need-event-mask-requires
 event-mask-requires c κs = search needs
 
--- src/lib.rt:107:1
 returns : tie.Need-returns
 returns c = search formula-condition
 
--- src/lib.rt:107:1
 returns-2 : tie.Need-returns-2
 returns-2 c = search formula-event
 

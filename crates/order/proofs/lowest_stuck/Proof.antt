@@ -17,31 +17,24 @@ Inv-loop n taken v₀ v = (v ≤ n) × (least (untakenBy taken) v ≡ none)
 abbrev μ-loop : tie.MeasureT-loop
 μ-loop n taken v₀ v = n - v
 
--- src/lib.rt:257:5
 loop-holds : tie.Need-loop-holds Inv-loop μ-loop
 loop-holds c = (search needs, search least-start)
 
--- src/lib.rt:258:12
 untaken-requires : tie.Need-untaken-requires Inv-loop μ-loop
 untaken-requires c κs = search needs
 
--- src/lib.rt:259:13
 returns : tie.Need-returns Inv-loop μ-loop
 returns c = search stuck-found
 
--- src/lib.rt:257:9
 add-v : tie.Need-add-v Inv-loop μ-loop
 add-v c = search needs
 
--- src/lib.rt:257:5
 loop-less : tie.Need-loop-less Inv-loop μ-loop
 loop-less c = search needs
 
--- src/lib.rt:257:5
 loop-again : tie.Need-loop-again Inv-loop μ-loop
 loop-again c = (search needs, search stuck-on)
 
--- src/lib.rt:253:1
 returns-2 : tie.Need-returns-2 Inv-loop μ-loop
 returns-2 c = search stuck-none
 

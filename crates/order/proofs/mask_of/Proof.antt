@@ -5,19 +5,15 @@ use Rattle.order.proofs.mask_of.Tie as tie
 use Rattle.order.proofs.mask_of.Reads as reads
 use Rattle.order.proofs.mask_of.Lts as lts
 
--- src/lib.rt:170:26
 mul-result : tie.Need-mul-result
 mul-result c = search needs
 
--- src/lib.rt:170:26
 shared-slice-read-result : tie.Need-shared-slice-read-result
 shared-slice-read-result c = search needs
 
--- src/lib.rt:167:1
 returns : tie.Need-returns
 returns c = search needs
 
--- src/lib.rt:167:1
 returns-2 : tie.Need-returns-2
 returns-2 c = search past-none
 

@@ -6,15 +6,12 @@ use Rattle.order.proofs.missing.Reads as reads
 use Rattle.order.proofs.missing.Lts as lts
 use Rattle.order.proofs.bit.Reads as bit-reads
 
--- src/lib.rt:185:9
 bit-requires : tie.Need-bit-requires
 bit-requires c κs = search needs
 
--- src/lib.rt:186:9
 bit-requires-2 : tie.Need-bit-requires-2
 bit-requires-2 c κs = search needs
 
--- src/lib.rt:181:1
 returns : tie.Need-returns
 returns c = search missing-is
 

@@ -18,35 +18,27 @@ Inv-loop masks n taken v m b₀ b = (b ≤ n) × (least (stuckRead m taken) b �
 abbrev μ-loop : tie.MeasureT-loop
 μ-loop masks n taken v m b₀ b = n - b
 
--- src/lib.rt:280:9
 mask-of-requires : tie.Need-mask-of-requires Inv-loop μ-loop
 mask-of-requires c κs = search needs
 
--- src/lib.rt:281:5
 loop-holds : tie.Need-loop-holds Inv-loop μ-loop
 loop-holds c = (search needs, search least-start)
 
--- src/lib.rt:282:12
 stuck-read-requires : tie.Need-stuck-read-requires Inv-loop μ-loop
 stuck-read-requires c κs = search needs
 
--- src/lib.rt:283:13
 returns : tie.Need-returns Inv-loop μ-loop
 returns c = search move-found
 
--- src/lib.rt:281:9
 add-b : tie.Need-add-b Inv-loop μ-loop
 add-b c = search needs
 
--- src/lib.rt:281:5
 loop-less : tie.Need-loop-less Inv-loop μ-loop
 loop-less c = search needs
 
--- src/lib.rt:281:5
 loop-again : tie.Need-loop-again Inv-loop μ-loop
 loop-again c = (search needs, search move-next)
 
--- src/lib.rt:276:1
 returns-2 : tie.Need-returns-2 Inv-loop μ-loop
 returns-2 c = search move-none
 

@@ -17,35 +17,27 @@ Inv-loop masks n taken w u₀ k₀ u k = (k ≤ n) × (u ≡ iterate (moveBy mas
 abbrev μ-loop : tie.MeasureT-loop
 μ-loop masks n taken w u₀ k₀ u k = n - k
 
--- src/lib.rt:307:5
 loop-holds : tie.Need-loop-holds Inv-loop μ-loop
 loop-holds c = (search needs, search moves-none, search least-start)
 
--- src/lib.rt:308:9
 move-on-requires : tie.Need-move-on-requires Inv-loop μ-loop
 move-on-requires c κs = search needs
 
--- src/lib.rt:310:20
 add-result : tie.Need-add-result Inv-loop μ-loop
 add-result c = search needs
 
--- src/lib.rt:310:13
 returns : tie.Need-returns Inv-loop μ-loop
 returns c = search back-found
 
--- src/lib.rt:307:9
 add-k : tie.Need-add-k Inv-loop μ-loop
 add-k c = search needs
 
--- src/lib.rt:307:5
 loop-less : tie.Need-loop-less Inv-loop μ-loop
 loop-less c = search needs
 
--- src/lib.rt:307:5
 loop-again : tie.Need-loop-again Inv-loop μ-loop
 loop-again c = (search needs, search moves-on, search back-on)
 
--- src/lib.rt:302:1
 returns-2 : tie.Need-returns-2 Inv-loop μ-loop
 returns-2 c = search back-none
 

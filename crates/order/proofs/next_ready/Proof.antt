@@ -17,31 +17,24 @@ Inv-loop masks n taken v₀ v = (v ≤ n) × (least (readyBy masks n taken) v �
 abbrev μ-loop : tie.MeasureT-loop
 μ-loop masks n taken v₀ v = n - v
 
--- src/lib.rt:223:5
 loop-holds : tie.Need-loop-holds Inv-loop μ-loop
 loop-holds c = (search needs, search least-start)
 
--- src/lib.rt:224:12
 ready-requires : tie.Need-ready-requires Inv-loop μ-loop
 ready-requires c κs = search needs
 
--- src/lib.rt:225:13
 returns : tie.Need-returns Inv-loop μ-loop
 returns c = search ready-found
 
--- src/lib.rt:223:9
 add-v : tie.Need-add-v Inv-loop μ-loop
 add-v c = search needs
 
--- src/lib.rt:223:5
 loop-less : tie.Need-loop-less Inv-loop μ-loop
 loop-less c = search needs
 
--- src/lib.rt:223:5
 loop-again : tie.Need-loop-again Inv-loop μ-loop
 loop-again c = (search needs, search ready-on)
 
--- src/lib.rt:219:1
 returns-2 : tie.Need-returns-2 Inv-loop μ-loop
 returns-2 c = search ready-none
 

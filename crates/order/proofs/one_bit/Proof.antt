@@ -5,19 +5,15 @@ use Rattle.order.proofs.one_bit.Tie as tie
 use Rattle.order.proofs.one_bit.Reads as reads
 use Rattle.order.proofs.one_bit.Lts as lts
 
--- src/lib.rt:28:9
 returns : tie.Need-returns
 returns c = search bit-none
 
--- src/lib.rt:30:13
 cast-result : tie.Need-cast-result
 cast-result c = search needs
 
--- src/lib.rt:30:5
 shl-result : tie.Need-shl-result
 shl-result c = search needs
 
--- src/lib.rt:24:1
 returns-2 : tie.Need-returns-2
 returns-2 c = search bit-one
 

@@ -8,35 +8,27 @@ use Rattle.order.proofs.fill_masks.Reads as fill-masks-reads
 use Rattle.order.proofs.find_cycle.Reads as find-cycle-reads
 use Rattle.order.proofs.take_ready.Reads as take-ready-reads
 
--- src/lib.rt:345:31
 slice-aggregate-fill-masks : tie.Need-slice-aggregate-fill-masks
 slice-aggregate-fill-masks c = search needs
 
--- src/lib.rt:345:5
 fill-masks-requires : tie.Need-fill-masks-requires
 fill-masks-requires c κs = search needs
 
--- src/lib.rt:346:28
 slice-aggregate-take-ready : tie.Need-slice-aggregate-take-ready
 slice-aggregate-take-ready c = search needs
 
--- src/lib.rt:346:9
 take-ready-requires : tie.Need-take-ready-requires
 take-ready-requires c κs = search needs
 
--- src/lib.rt:347:16
 slice-aggregate-find-cycle : tie.Need-slice-aggregate-find-cycle
 slice-aggregate-find-cycle c = search needs
 
--- src/lib.rt:347:5
 find-cycle-requires : tie.Need-find-cycle-requires
 find-cycle-requires c κs = search needs
 
--- src/lib.rt:338:1
 same-length : tie.Need-same-length
 same-length c = search needs
 
--- src/lib.rt:338:1
 returns : tie.Need-returns
 returns c = (search tables-cycle, (search tables-order, search needs))
 

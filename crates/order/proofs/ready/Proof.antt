@@ -8,19 +8,15 @@ use Rattle.order.proofs.all_taken.Reads as all-taken-reads
 use Rattle.order.proofs.mask_of.Reads as mask-of-reads
 use Rattle.order.proofs.untaken.Reads as untaken-reads
 
--- src/lib.rt:207:9
 untaken-requires : tie.Need-untaken-requires
 untaken-requires c κs = search needs
 
--- src/lib.rt:208:9
 mask-of-requires : tie.Need-mask-of-requires
 mask-of-requires c κs = search needs
 
--- src/lib.rt:209:9
 all-taken-requires : tie.Need-all-taken-requires
 all-taken-requires c κs = search needs
 
--- src/lib.rt:203:1
 returns : tie.Need-returns
 returns c = search ready-is
 

@@ -17,47 +17,36 @@ Inv-loop words t at first mask₀ on₀ i₀ mask on i = (i ≤ 64) × (rowsMask
 abbrev μ-loop : tie.MeasureT-loop
 μ-loop words t at first mask₀ on₀ i₀ mask on i = 64 - i
 
--- src/lib.rt:123:5
 loop-holds : tie.Need-loop-holds Inv-loop μ-loop
 loop-holds c = (search needs, refl)
 
--- src/lib.rt:125:13
 returns : tie.Need-returns Inv-loop μ-loop
 returns c = search rows-past
 
--- src/lib.rt:127:40
 add-formula-mask : tie.Need-add-formula-mask Inv-loop μ-loop
 add-formula-mask c = search needs
 
--- src/lib.rt:127:13
 formula-mask-requires : tie.Need-formula-mask-requires Inv-loop μ-loop
 formula-mask-requires c κs = search needs
 
--- src/lib.rt:130:13
 word-at-requires : tie.Need-word-at-requires Inv-loop μ-loop
 word-at-requires c κs = search needs
 
--- src/lib.rt:131:12
 kind-requires : tie.Need-kind-requires Inv-loop μ-loop
 kind-requires c κs = search needs
 
--- src/lib.rt:132:13
 returns-2 : tie.Need-returns-2 Inv-loop μ-loop
 returns-2 c = search rows-last
 
--- src/lib.rt:123:9
 add-i : tie.Need-add-i Inv-loop μ-loop
 add-i c = search needs
 
--- src/lib.rt:123:5
 loop-less : tie.Need-loop-less Inv-loop μ-loop
 loop-less c = search needs
 
--- src/lib.rt:123:5
 loop-again : tie.Need-loop-again Inv-loop μ-loop
 loop-again c = (search needs, search rows-on)
 
--- src/lib.rt:118:1
 returns-3 : tie.Need-returns-3 Inv-loop μ-loop
 returns-3 c = search rows-all
 

@@ -16,27 +16,21 @@ Inv-loop masks n taken v u₀ i₀ u i = (i ≤ 32) × (u ≡ iterate (moveBy ma
 abbrev μ-loop : tie.MeasureT-loop
 μ-loop masks n taken v u₀ i₀ u i = 32 - i
 
--- src/lib.rt:295:5
 loop-holds : tie.Need-loop-holds Inv-loop μ-loop
 loop-holds c = (search needs, search moves-none)
 
--- src/lib.rt:296:9
 move-on-requires : tie.Need-move-on-requires Inv-loop μ-loop
 move-on-requires c κs = search needs
 
--- src/lib.rt:295:9
 add-i : tie.Need-add-i Inv-loop μ-loop
 add-i c = search needs
 
--- src/lib.rt:295:5
 loop-less : tie.Need-loop-less Inv-loop μ-loop
 loop-less c = search needs
 
--- src/lib.rt:295:5
 loop-again : tie.Need-loop-again Inv-loop μ-loop
 loop-again c = (search needs, search moves-on)
 
--- src/lib.rt:290:1
 returns : tie.Need-returns Inv-loop μ-loop
 returns c = search moves-all
 

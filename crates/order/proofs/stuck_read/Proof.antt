@@ -7,15 +7,12 @@ use Rattle.order.proofs.stuck_read.Lts as lts
 use Rattle.order.proofs.bit.Reads as bit-reads
 use Rattle.order.proofs.untaken.Reads as untaken-reads
 
--- src/lib.rt:270:9
 untaken-requires : tie.Need-untaken-requires
 untaken-requires c κs = search needs
 
--- src/lib.rt:271:9
 bit-requires : tie.Need-bit-requires
 bit-requires c κs = search needs
 
--- src/lib.rt:266:1
 returns : tie.Need-returns
 returns c = search stuck-read-is
 

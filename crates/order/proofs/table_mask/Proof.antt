@@ -11,51 +11,39 @@ use Rattle.order.proofs.rows_mask.Reads as rows-mask-reads
 use Rattle.word.proofs.class_read.Reads as class-read-reads
 use Rattle.word.proofs.sort.Reads as sort-reads
 
--- src/lib.rt:142:9
 place-of-requires : tie.Need-place-of-requires
 place-of-requires c κs = search needs
 
--- src/lib.rt:144:9
 returns : tie.Need-returns
 returns c = search table-none
 
--- src/lib.rt:146:28
 sub-word-at : tie.Need-sub-word-at
 sub-word-at c = search needs
 
--- src/lib.rt:146:9
 word-at-requires : tie.Need-word-at-requires
 word-at-requires c κs = search needs
 
--- src/lib.rt:147:9
 sort-requires : tie.Need-sort-requires
 sort-requires c κs = search needs
 
--- src/lib.rt:149:17
 class-read-requires : tie.Need-class-read-requires
 class-read-requires c κs = search needs
 
--- src/lib.rt:149:17
 cast-c : tie.Need-cast-c
 cast-c c = search needs
 
--- src/lib.rt:150:32
 one-bit-requires : tie.Need-one-bit-requires
 one-bit-requires c κs = search needs
 
--- src/lib.rt:150:9
 rows-mask-requires : tie.Need-rows-mask-requires
 rows-mask-requires c κs = search needs
 
--- src/lib.rt:152:9
 rows-mask-requires-2 : tie.Need-rows-mask-requires-2
 rows-mask-requires-2 c κs = search needs
 
--- src/lib.rt:139:1
 returns-2 : tie.Need-returns-2
 returns-2 c = search table-condition
 
--- src/lib.rt:139:1
 returns-3 : tie.Need-returns-3
 returns-3 c = search table-event
 

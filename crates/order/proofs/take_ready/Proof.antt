@@ -17,59 +17,45 @@ Inv-loop masks n order₀ taken₀ i₀ order taken i = (i ≤ n) × (length ord
 abbrev μ-loop : tie.MeasureT-loop
 μ-loop masks n order₀ taken₀ i₀ order taken i = n - i
 
--- src/lib.rt:239:5
 loop-holds : tie.Need-loop-holds Inv-loop μ-loop
 loop-holds c = (search needs, search needs, search mask-start, search order-start)
 
--- src/lib.rt:240:13
 next-ready-requires : tie.Need-next-ready-requires Inv-loop μ-loop
 next-ready-requires c κs = search needs
 
--- src/lib.rt:242:31
 enum-told : tie.Need-enum-told Inv-loop μ-loop
 enum-told c = search needs
 
--- src/lib.rt:242:31
 same-length : tie.Need-same-length Inv-loop μ-loop
 same-length c = search needs
 
--- src/lib.rt:242:31
 returns : tie.Need-returns Inv-loop μ-loop
 returns c = (search mask-stop, (search order-stop, search needs))
 
--- src/lib.rt:243:23
 enum-known-f : tie.Need-enum-known-f Inv-loop μ-loop
 enum-known-f c = search needs
 
--- src/lib.rt:244:17
 mul-order : tie.Need-mul-order Inv-loop μ-loop
 mul-order c = search needs
 
--- src/lib.rt:244:17
 slice-write-order : tie.Need-slice-write-order Inv-loop μ-loop
 slice-write-order c = search needs
 
--- src/lib.rt:245:33
 one-bit-requires : tie.Need-one-bit-requires Inv-loop μ-loop
 one-bit-requires c κs = search needs
 
--- src/lib.rt:239:9
 add-i : tie.Need-add-i Inv-loop μ-loop
 add-i c = search needs
 
--- src/lib.rt:239:5
 loop-less : tie.Need-loop-less Inv-loop μ-loop
 loop-less c = search needs
 
--- src/lib.rt:239:5
 loop-again : tie.Need-loop-again Inv-loop μ-loop
 loop-again c = (search needs, simp length-set (search needs), search mask-on, search order-on)
 
--- src/lib.rt:232:1
 same-length-2 : tie.Need-same-length-2 Inv-loop μ-loop
 same-length-2 c = search needs
 
--- src/lib.rt:232:1
 returns-2 : tie.Need-returns-2 Inv-loop μ-loop
 returns-2 c = (search mask-all, (search order-all, search needs))
 

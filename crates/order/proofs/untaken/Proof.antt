@@ -6,11 +6,9 @@ use Rattle.order.proofs.untaken.Reads as reads
 use Rattle.order.proofs.untaken.Lts as lts
 use Rattle.order.proofs.bit.Reads as bit-reads
 
--- src/lib.rt:177:6
 bit-requires : tie.Need-bit-requires
 bit-requires c κs = search needs
 
--- src/lib.rt:173:1
 returns : tie.Need-returns
 returns c = search untaken-is
 

@@ -7,15 +7,12 @@ use Rattle.part.proofs.ends_table.Lts as lts
 use Rattle.index.proofs.word_at.Reads as word-at-reads
 use Rattle.word.proofs.kind.Reads as kind-reads
 
--- src/lib.rt:21:18
 word-at-requires : tie.Need-word-at-requires
 word-at-requires c κs = search needs
 
--- src/lib.rt:21:9
 kind-requires : tie.Need-kind-requires
 kind-requires c κs = search needs
 
--- src/lib.rt:18:1
 returns : tie.Need-returns
 returns c = search ends-table-is
 

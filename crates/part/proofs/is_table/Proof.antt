@@ -8,19 +8,15 @@ use Rattle.index.proofs.word_at.Reads as word-at-reads
 use Rattle.word.proofs.defined.Reads as defined-reads
 use Rattle.word.proofs.kind.Reads as kind-reads
 
--- src/lib.rt:14:9
 word-at-requires : tie.Need-word-at-requires
 word-at-requires c κs = search needs
 
--- src/lib.rt:15:6
 kind-requires : tie.Need-kind-requires
 kind-requires c κs = search needs
 
--- src/lib.rt:15:23
 defined-requires : tie.Need-defined-requires
 defined-requires c κs = search needs
 
--- src/lib.rt:11:1
 returns : tie.Need-returns
 returns c = search is-table-is
 

@@ -17,35 +17,27 @@ Inv-loop words start i₀ i-end i = (start + 1 ≤ i) × (i ≤ length words) ×
 abbrev μ-loop : tie.MeasureT-loop
 μ-loop words start i₀ i-end i = length words - i
 
--- src/lib.rt:42:14
 add-i : tie.Need-add-i Inv-loop μ-loop
 add-i c = search needs
 
--- src/lib.rt:42:5
 loop-holds : tie.Need-loop-holds Inv-loop μ-loop
 loop-holds c = (search needs, search needs, first-none _ _)
 
--- src/lib.rt:43:12
 ends-table-requires : tie.Need-ends-table-requires Inv-loop μ-loop
 ends-table-requires c κs = search needs
 
--- src/lib.rt:44:13
 returns : tie.Need-returns Inv-loop μ-loop
 returns c = search end-here
 
--- src/lib.rt:42:9
 add-i-2 : tie.Need-add-i-2 Inv-loop μ-loop
 add-i-2 c = search needs
 
--- src/lib.rt:42:5
 loop-less : tie.Need-loop-less Inv-loop μ-loop
 loop-less c = search needs
 
--- src/lib.rt:42:5
 loop-again : tie.Need-loop-again Inv-loop μ-loop
 loop-again c = (search needs, search needs, search end-on)
 
--- src/lib.rt:38:1
 returns-2 : tie.Need-returns-2 Inv-loop μ-loop
 returns-2 c = search end-none
 

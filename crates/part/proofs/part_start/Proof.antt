@@ -18,31 +18,24 @@ Inv-loop words variable i₀ i-end i = (i ≤ length words) × (least (isTableOf
 abbrev μ-loop : tie.MeasureT-loop
 μ-loop words variable i₀ i-end i = length words - i
 
--- src/lib.rt:29:5
 loop-holds : tie.Need-loop-holds Inv-loop μ-loop
 loop-holds c = (search needs, unfold least in refl)
 
--- src/lib.rt:30:12
 is-table-requires : tie.Need-is-table-requires Inv-loop μ-loop
 is-table-requires c κs = search needs
 
--- src/lib.rt:31:13
 returns : tie.Need-returns Inv-loop μ-loop
 returns c = search start-here
 
--- src/lib.rt:29:9
 add-i : tie.Need-add-i Inv-loop μ-loop
 add-i c = search needs
 
--- src/lib.rt:29:5
 loop-less : tie.Need-loop-less Inv-loop μ-loop
 loop-less c = search needs
 
--- src/lib.rt:29:5
 loop-again : tie.Need-loop-again Inv-loop μ-loop
 loop-again c = (search needs, search start-on)
 
--- src/lib.rt:26:1
 returns-2 : tie.Need-returns-2 Inv-loop μ-loop
 returns-2 c = search start-none
 

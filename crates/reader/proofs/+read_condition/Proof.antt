@@ -35,83 +35,63 @@ read-condition-below t =
 abbrev calls : ℕ → read-condition-lts.Claims
 calls t = (word-at-reads.Asked, word-at-reads.Learnt, fits-condition-reads.Asked, fits-condition-reads.Learnt, kind-reads.Asked, kind-reads.Learnt, test-ok-reads.Asked, test-ok-reads.Learnt, read-condition-below t, read-condition.Post)
 
--- src/lib.rt:136:9
 read-condition-returns : (t : ℕ) → read-condition-lts.Need-returns (calls t) (read-condition-at t) read-condition.Post
 read-condition-returns t c = search conditions
 
--- src/lib.rt:138:9
 read-condition-word-at-requires : (t : ℕ) → read-condition-lts.Need-word-at-requires (calls t) (read-condition-at t) read-condition.Post
 read-condition-word-at-requires t c κs = search needs
 
--- src/lib.rt:139:9
 read-condition-fits-condition-requires : (t : ℕ) → read-condition-lts.Need-fits-condition-requires (calls t) (read-condition-at t) read-condition.Post
 read-condition-fits-condition-requires t c κs = search needs
 
--- src/lib.rt:140:9
 read-condition-returns-2 : (t : ℕ) → read-condition-lts.Need-returns-2 (calls t) (read-condition-at t) read-condition.Post
 read-condition-returns-2 t c = search conditions
 
--- src/lib.rt:143:9
 read-condition-returns-3 : (t : ℕ) → read-condition-lts.Need-returns-3 (calls t) (read-condition-at t) read-condition.Post
 read-condition-returns-3 t c = search conditions
 
--- src/lib.rt:145:14
 read-condition-add-on : (t : ℕ) → read-condition-lts.Need-add-on (calls t) (read-condition-at t) read-condition.Post
 read-condition-add-on t c = search needs
 
--- src/lib.rt:146:16
 read-condition-sub-less : (t : ℕ) → read-condition-lts.Need-sub-less (calls t) (read-condition-at t) read-condition.Post
 read-condition-sub-less t c = search needs
 
--- src/lib.rt:147:11
 read-condition-kind-requires : (t : ℕ) → read-condition-lts.Need-kind-requires (calls t) (read-condition-at t) read-condition.Post
 read-condition-kind-requires t c κs = search needs
 
--- src/lib.rt:149:16
 read-condition-test-ok-requires : (t : ℕ) → read-condition-lts.Need-test-ok-requires (calls t) (read-condition-at t) read-condition.Post
 read-condition-test-ok-requires t c κs = search needs
 
--- src/lib.rt:156:14
 read-condition-read-condition-requires : (t : ℕ) → read-condition-lts.Need-read-condition-requires (calls t) (read-condition-at t) read-condition.Post
 read-condition-read-condition-requires t c κs = search needs
 
--- src/lib.rt:158:17
 read-condition-read-condition-requires-2 : (t : ℕ) → read-condition-lts.Need-read-condition-requires-2 (calls t) (read-condition-at t) read-condition.Post
 read-condition-read-condition-requires-2 t c κs = search needs
 
--- src/lib.rt:160:31
 read-condition-enum-known-first : (t : ℕ) → read-condition-lts.Need-enum-known-first (calls t) (read-condition-at t) read-condition.Post
 read-condition-enum-known-first t c = search needs
 
--- src/lib.rt:160:37
 read-condition-read-condition-requires-3 : (t : ℕ) → read-condition-lts.Need-read-condition-requires-3 (calls t) (read-condition-at t) read-condition.Post
 read-condition-read-condition-requires-3 t c κs = search needs
 
--- src/lib.rt:161:34
 read-condition-enum-known-first-2 : (t : ℕ) → read-condition-lts.Need-enum-known-first-2 (calls t) (read-condition-at t) read-condition.Post
 read-condition-enum-known-first-2 t c = search needs
 
--- src/lib.rt:132:1
 read-condition-returns-4 : (t : ℕ) → read-condition-lts.Need-returns-4 (calls t) (read-condition-at t) read-condition.Post
 read-condition-returns-4 t c = search conditions
 
--- src/lib.rt:132:1
 read-condition-returns-5 : (t : ℕ) → read-condition-lts.Need-returns-5 (calls t) (read-condition-at t) read-condition.Post
 read-condition-returns-5 t c = search conditions
 
--- src/lib.rt:132:1
 read-condition-returns-6 : (t : ℕ) → read-condition-lts.Need-returns-6 (calls t) (read-condition-at t) read-condition.Post
 read-condition-returns-6 t c = search conditions
 
--- src/lib.rt:132:1
 read-condition-returns-7 : (t : ℕ) → read-condition-lts.Need-returns-7 (calls t) (read-condition-at t) read-condition.Post
 read-condition-returns-7 t c = search conditions
 
--- src/lib.rt:132:1
 read-condition-returns-8 : (t : ℕ) → read-condition-lts.Need-returns-8 (calls t) (read-condition-at t) read-condition.Post
 read-condition-returns-8 t c = search conditions
 
--- src/lib.rt:132:1
 read-condition-returns-9 : (t : ℕ) → read-condition-lts.Need-returns-9 (calls t) (read-condition-at t) read-condition.Post
 read-condition-returns-9 t c = search conditions
 

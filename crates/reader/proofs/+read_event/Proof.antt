@@ -30,91 +30,69 @@ read-event-below t =
 abbrev calls : ℕ → read-event-lts.Claims
 calls t = (word-at-reads.Asked, word-at-reads.Learnt, fits-event-reads.Asked, fits-event-reads.Learnt, kind-reads.Asked, kind-reads.Learnt, truth-reads.Asked, truth-reads.Learnt, read-event-below t, read-event.Post, sort-reads.Asked, sort-reads.Learnt, within-reads.Asked, within-reads.Learnt, read-change-reads.Asked, read-change-reads.Learnt)
 
--- src/lib.rt:182:9
 read-event-returns : (t : ℕ) → read-event-lts.Need-returns (calls t) (read-event-at t) read-event.Post
 read-event-returns t c = search events
 
--- src/lib.rt:184:9
 read-event-word-at-requires : (t : ℕ) → read-event-lts.Need-word-at-requires (calls t) (read-event-at t) read-event.Post
 read-event-word-at-requires t c κs = search needs
 
--- src/lib.rt:185:9
 read-event-fits-event-requires : (t : ℕ) → read-event-lts.Need-fits-event-requires (calls t) (read-event-at t) read-event.Post
 read-event-fits-event-requires t c κs = search needs
 
--- src/lib.rt:186:9
 read-event-returns-2 : (t : ℕ) → read-event-lts.Need-returns-2 (calls t) (read-event-at t) read-event.Post
 read-event-returns-2 t c = search events
 
--- src/lib.rt:189:9
 read-event-returns-3 : (t : ℕ) → read-event-lts.Need-returns-3 (calls t) (read-event-at t) read-event.Post
 read-event-returns-3 t c = search events
 
--- src/lib.rt:191:14
 read-event-add-on : (t : ℕ) → read-event-lts.Need-add-on (calls t) (read-event-at t) read-event.Post
 read-event-add-on t c = search needs
 
--- src/lib.rt:192:16
 read-event-sub-less : (t : ℕ) → read-event-lts.Need-sub-less (calls t) (read-event-at t) read-event.Post
 read-event-sub-less t c = search needs
 
--- src/lib.rt:193:11
 read-event-kind-requires : (t : ℕ) → read-event-lts.Need-kind-requires (calls t) (read-event-at t) read-event.Post
 read-event-kind-requires t c κs = search needs
 
--- src/lib.rt:195:16
 read-event-truth-requires : (t : ℕ) → read-event-lts.Need-truth-requires (calls t) (read-event-at t) read-event.Post
 read-event-truth-requires t c κs = search needs
 
--- src/lib.rt:202:17
 read-event-read-event-requires : (t : ℕ) → read-event-lts.Need-read-event-requires (calls t) (read-event-at t) read-event.Post
 read-event-read-event-requires t c κs = search needs
 
--- src/lib.rt:204:31
 read-event-enum-known-first : (t : ℕ) → read-event-lts.Need-enum-known-first (calls t) (read-event-at t) read-event.Post
 read-event-enum-known-first t c = search needs
 
--- src/lib.rt:204:37
 read-event-read-event-requires-2 : (t : ℕ) → read-event-lts.Need-read-event-requires-2 (calls t) (read-event-at t) read-event.Post
 read-event-read-event-requires-2 t c κs = search needs
 
--- src/lib.rt:205:34
 read-event-enum-known-first-2 : (t : ℕ) → read-event-lts.Need-enum-known-first-2 (calls t) (read-event-at t) read-event.Post
 read-event-enum-known-first-2 t c = search needs
 
--- src/lib.rt:209:29
 read-event-sort-requires : (t : ℕ) → read-event-lts.Need-sort-requires (calls t) (read-event-at t) read-event.Post
 read-event-sort-requires t c κs = search needs
 
--- src/lib.rt:209:16
 read-event-within-requires : (t : ℕ) → read-event-lts.Need-within-requires (calls t) (read-event-at t) read-event.Post
 read-event-within-requires t c κs = search needs
 
--- src/lib.rt:210:17
 read-event-read-change-requires : (t : ℕ) → read-event-lts.Need-read-change-requires (calls t) (read-event-at t) read-event.Post
 read-event-read-change-requires t c κs = search needs
 
--- src/lib.rt:178:1
 read-event-returns-4 : (t : ℕ) → read-event-lts.Need-returns-4 (calls t) (read-event-at t) read-event.Post
 read-event-returns-4 t c = search events
 
--- src/lib.rt:178:1
 read-event-returns-5 : (t : ℕ) → read-event-lts.Need-returns-5 (calls t) (read-event-at t) read-event.Post
 read-event-returns-5 t c = search events
 
--- src/lib.rt:178:1
 read-event-returns-6 : (t : ℕ) → read-event-lts.Need-returns-6 (calls t) (read-event-at t) read-event.Post
 read-event-returns-6 t c = search events
 
--- src/lib.rt:178:1
 read-event-returns-7 : (t : ℕ) → read-event-lts.Need-returns-7 (calls t) (read-event-at t) read-event.Post
 read-event-returns-7 t c = search events
 
--- src/lib.rt:178:1
 read-event-returns-8 : (t : ℕ) → read-event-lts.Need-returns-8 (calls t) (read-event-at t) read-event.Post
 read-event-returns-8 t c = search events
 
--- src/lib.rt:178:1
 read-event-returns-9 : (t : ℕ) → read-event-lts.Need-returns-9 (calls t) (read-event-at t) read-event.Post
 read-event-returns-9 t c = search events
 

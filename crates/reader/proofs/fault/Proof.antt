@@ -4,23 +4,18 @@ use Rattle.reader.proofs.fault.Tie as tie
 use Rattle.reader.proofs.fault.Reads as reads
 use Rattle.reader.proofs.fault.Lts as lts
 
--- src/lib.rt:225:9
 returns : tie.Need-returns
 returns c = search faults
 
--- src/lib.rt:228:9
 returns-2 : tie.Need-returns-2
 returns-2 c = search faults
 
--- src/lib.rt:231:9
 returns-3 : tie.Need-returns-3
 returns-3 c = search faults
 
--- src/lib.rt:234:9
 returns-4 : tie.Need-returns-4
 returns-4 c = search faults
 
--- src/lib.rt:221:1
 returns-5 : tie.Need-returns-5
 returns-5 c = search faults
 

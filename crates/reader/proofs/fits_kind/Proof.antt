@@ -7,15 +7,12 @@ use Rattle.reader.proofs.fits_kind.Lts as lts
 use Rattle.word.proofs.kind.Reads as kind-reads
 use Rattle.word.proofs.spare_clear.Reads as spare-clear-reads
 
--- src/lib.rt:63:9
 kind-requires : tie.Need-kind-requires
 kind-requires c κs = search needs
 
--- src/lib.rt:64:9
 spare-clear-requires : tie.Need-spare-clear-requires
 spare-clear-requires c κs = search needs
 
--- src/lib.rt:60:1
 returns : tie.Need-returns
 returns c = search one-kind
 

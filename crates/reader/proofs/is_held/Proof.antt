@@ -8,27 +8,21 @@ use Rattle.index.proofs.place_of.Reads as place-of-reads
 use Rattle.index.proofs.word_at.Reads as word-at-reads
 use Rattle.word.proofs.sort.Reads as sort-reads
 
--- src/lib.rt:474:9
 place-of-requires : tie.Need-place-of-requires
 place-of-requires c κs = search needs
 
--- src/lib.rt:476:9
 returns : tie.Need-returns
 returns c = search held-none
 
--- src/lib.rt:478:25
 sub-word-at : tie.Need-sub-word-at
 sub-word-at c = search needs
 
--- src/lib.rt:478:10
 word-at-requires : tie.Need-word-at-requires
 word-at-requires c κs = search needs
 
--- src/lib.rt:478:5
 sort-requires : tie.Need-sort-requires
 sort-requires c κs = search needs
 
--- src/lib.rt:471:1
 returns-2 : tie.Need-returns-2
 returns-2 c = search held-some
 

@@ -10,39 +10,30 @@ use Rattle.reader.proofs.fits_kind.Reads as fits-kind-reads
 use Rattle.reader.proofs.read_condition.Reads as read-condition-reads
 use Rattle.word.proofs.sort.Reads as sort-reads
 
--- src/lib.rt:391:9
 returns : tie.Need-returns
 returns c = search assertion-laws
 
--- src/lib.rt:393:9
 word-at-requires : tie.Need-word-at-requires
 word-at-requires c κs = search needs
 
--- src/lib.rt:394:9
 fits-kind-requires : tie.Need-fits-kind-requires
 fits-kind-requires c κs = search needs
 
--- src/lib.rt:395:9
 sort-requires : tie.Need-sort-requires
 sort-requires c κs = search needs
 
--- src/lib.rt:396:9
 fault-requires : tie.Need-fault-requires
 fault-requires c κs = search needs
 
--- src/lib.rt:398:9
 returns-2 : tie.Need-returns-2
 returns-2 c = search assertion-laws
 
--- src/lib.rt:400:30
 add-read-condition : tie.Need-add-read-condition
 add-read-condition c = search needs
 
--- src/lib.rt:400:5
 read-condition-requires : tie.Need-read-condition-requires
 read-condition-requires c κs = search needs
 
--- src/lib.rt:387:1
 returns-3 : tie.Need-returns-3
 returns-3 c = search assertion-laws
 

@@ -17,55 +17,42 @@ Inv-loop words n at on₀ i₀ on i = (i ≤ Max.max-assertions) × (reach (read
 abbrev μ-loop : tie.MeasureT-loop
 μ-loop words n at on₀ i₀ on i = Max.max-assertions - i
 
--- src/lib.rt:408:5
 loop-holds : tie.Need-loop-holds Inv-loop μ-loop
 loop-holds c = (search needs, refl)
 
--- src/lib.rt:410:13
 returns : tie.Need-returns Inv-loop μ-loop
 returns c = search assertions-end
 
--- src/lib.rt:412:50
 sub-read-assertion : tie.Need-sub-read-assertion Inv-loop μ-loop
 sub-read-assertion c = search needs
 
--- src/lib.rt:412:13
 read-assertion-requires : tie.Need-read-assertion-requires Inv-loop μ-loop
 read-assertion-requires c κs = search needs
 
--- src/lib.rt:414:30
 enum-known-assertion : tie.Need-enum-known-assertion Inv-loop μ-loop
 enum-known-assertion c = search needs
 
--- src/lib.rt:414:39
 returns-2 : tie.Need-returns-2 Inv-loop μ-loop
 returns-2 c = search assertions-refused
 
--- src/lib.rt:415:27
 enum-known-assertion-2 : tie.Need-enum-known-assertion-2 Inv-loop μ-loop
 enum-known-assertion-2 c = search needs
 
--- src/lib.rt:408:9
 add-i : tie.Need-add-i Inv-loop μ-loop
 add-i c = search needs
 
--- src/lib.rt:408:5
 loop-less : tie.Need-loop-less Inv-loop μ-loop
 loop-less c = search needs
 
--- src/lib.rt:408:5
 loop-again : tie.Need-loop-again Inv-loop μ-loop
 loop-again c = (search needs, assertions-on _ _ _ _ _ _ _ (c .before .assertion2 .given .1) (c .before .before .before .read-assertion .ensures) (c .before .before .before .before .if1 .left) (search needs) (c .before .before .before .before .before .before .loop .inv .1))
 
--- src/lib.rt:421:9
 returns-3 : tie.Need-returns-3 Inv-loop μ-loop
 returns-3 c = search assertions-end
 
--- src/lib.rt:423:5
 read-assertion-requires-2 : tie.Need-read-assertion-requires-2 Inv-loop μ-loop
 read-assertion-requires-2 c κs = search needs
 
--- src/lib.rt:404:1
 returns-4 : tie.Need-returns-4 Inv-loop μ-loop
 returns-4 c = search assertions-over
 

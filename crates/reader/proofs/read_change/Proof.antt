@@ -6,27 +6,21 @@ use Rattle.reader.proofs.read_change.Reads as reads
 use Rattle.reader.proofs.read_change.Lts as lts
 use Rattle.reader.proofs.read_condition.Reads as read-condition-reads
 
--- src/lib.rt:171:9
 read-condition-requires : tie.Need-read-condition-requires
 read-condition-requires c κs = search needs
 
--- src/lib.rt:173:23
 enum-known-first : tie.Need-enum-known-first
 enum-known-first c = search needs
 
--- src/lib.rt:173:29
 read-condition-requires-2 : tie.Need-read-condition-requires-2
 read-condition-requires-2 c κs = search needs
 
--- src/lib.rt:174:26
 enum-known-first-2 : tie.Need-enum-known-first-2
 enum-known-first-2 c = search needs
 
--- src/lib.rt:168:1
 returns : tie.Need-returns
 returns c = search change-both
 
--- src/lib.rt:168:1
 returns-2 : tie.Need-returns-2
 returns-2 c = search change-stop
 

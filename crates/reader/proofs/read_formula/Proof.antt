@@ -7,19 +7,15 @@ use Rattle.reader.proofs.read_formula.Lts as lts
 use Rattle.reader.proofs.read_condition.Reads as read-condition-reads
 use Rattle.reader.proofs.read_event.Reads as read-event-reads
 
--- src/lib.rt:255:9
 read-condition-requires : tie.Need-read-condition-requires
 read-condition-requires c κs = search needs
 
--- src/lib.rt:257:9
 read-event-requires : tie.Need-read-event-requires
 read-event-requires c κs = search needs
 
--- src/lib.rt:251:1
 returns : tie.Need-returns
 returns c = search formula-condition
 
--- src/lib.rt:251:1
 returns-2 : tie.Need-returns-2
 returns-2 c = search formula-event
 

@@ -19,59 +19,45 @@ Inv-loop words n t v m at on₀ i₀ on i = (i ≤ Max.max-rows) × (rowsReach w
 abbrev μ-loop : tie.MeasureT-loop
 μ-loop words n t v m at on₀ i₀ on i = Max.max-rows - i
 
--- src/lib.rt:283:5
 loop-holds : tie.Need-loop-holds Inv-loop μ-loop
 loop-holds c = (search needs, refl)
 
--- src/lib.rt:284:47
 sub-read-row : tie.Need-sub-read-row Inv-loop μ-loop
 sub-read-row c = search needs
 
--- src/lib.rt:284:13
 read-row-requires : tie.Need-read-row-requires Inv-loop μ-loop
 read-row-requires c κs = search needs
 
--- src/lib.rt:286:30
 enum-known-row : tie.Need-enum-known-row Inv-loop μ-loop
 enum-known-row c = search needs
 
--- src/lib.rt:286:39
 returns : tie.Need-returns Inv-loop μ-loop
 returns c = search rows-refused
 
--- src/lib.rt:287:27
 enum-known-row-2 : tie.Need-enum-known-row-2 Inv-loop μ-loop
 enum-known-row-2 c = search needs
 
--- src/lib.rt:288:21
 word-at-requires : tie.Need-word-at-requires Inv-loop μ-loop
 word-at-requires c κs = search needs
 
--- src/lib.rt:289:20
 kind-requires : tie.Need-kind-requires Inv-loop μ-loop
 kind-requires c κs = search needs
 
--- src/lib.rt:290:21
 returns-2 : tie.Need-returns-2 Inv-loop μ-loop
 returns-2 c = search rows-end
 
--- src/lib.rt:283:9
 add-i : tie.Need-add-i Inv-loop μ-loop
 add-i c = search needs
 
--- src/lib.rt:283:5
 loop-less : tie.Need-loop-less Inv-loop μ-loop
 loop-less c = search needs
 
--- src/lib.rt:283:5
 loop-again : tie.Need-loop-again Inv-loop μ-loop
 loop-again c = (search needs, search rows-on)
 
--- src/lib.rt:296:5
 read-row-requires-2 : tie.Need-read-row-requires-2 Inv-loop μ-loop
 read-row-requires-2 c κs = search needs
 
--- src/lib.rt:279:1
 returns-3 : tie.Need-returns-3 Inv-loop μ-loop
 returns-3 c = search rows-over
 

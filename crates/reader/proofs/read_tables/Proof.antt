@@ -22,127 +22,96 @@ Inv-loop words n places₀ at on₀ i₀ places on i = (i ≤ n) × (length plac
 abbrev μ-loop : tie.MeasureT-loop
 μ-loop words n places₀ at on₀ i₀ places on i = n - i
 
--- src/lib.rt:356:5
 loop-holds : tie.Need-loop-holds Inv-loop μ-loop
 loop-holds c = (search needs, search needs, rw sub-zero)
 
--- src/lib.rt:358:13
 same-length : tie.Need-same-length Inv-loop μ-loop
 same-length c = search needs
 
--- src/lib.rt:358:13
 returns : tie.Need-returns Inv-loop μ-loop
 returns c = search tables-past
 
--- src/lib.rt:360:13
 word-at-requires : tie.Need-word-at-requires Inv-loop μ-loop
 word-at-requires c κs = search needs
 
--- src/lib.rt:361:12
 kind-requires : tie.Need-kind-requires Inv-loop μ-loop
 kind-requires c κs = search needs
 
--- src/lib.rt:362:13
 same-length-2 : tie.Need-same-length-2 Inv-loop μ-loop
 same-length-2 c = search needs
 
--- src/lib.rt:362:13
 returns-2 : tie.Need-returns-2 Inv-loop μ-loop
 returns-2 c = search tables-end
 
--- src/lib.rt:364:13
 read-table-requires : tie.Need-read-table-requires Inv-loop μ-loop
 read-table-requires c κs = search needs
 
--- src/lib.rt:366:30
 enum-known-table : tie.Need-enum-known-table Inv-loop μ-loop
 enum-known-table c = search needs
 
--- src/lib.rt:366:39
 same-length-3 : tie.Need-same-length-3 Inv-loop μ-loop
 same-length-3 c = search needs
 
--- src/lib.rt:366:39
 returns-3 : tie.Need-returns-3 Inv-loop μ-loop
 returns-3 c = search tables-refused
 
--- src/lib.rt:367:27
 enum-known-table-2 : tie.Need-enum-known-table-2 Inv-loop μ-loop
 enum-known-table-2 c = search needs
 
--- src/lib.rt:368:25
 defined-requires : tie.Need-defined-requires Inv-loop μ-loop
 defined-requires c κs = search needs
 
--- src/lib.rt:368:25
 cast-v : tie.Need-cast-v Inv-loop μ-loop
 cast-v c = search needs
 
--- src/lib.rt:369:29
 add-places : tie.Need-add-places Inv-loop μ-loop
 add-places c = search needs
 
--- src/lib.rt:369:17
 mul-places : tie.Need-mul-places Inv-loop μ-loop
 mul-places c = search needs
 
--- src/lib.rt:369:17
 slice-write-places : tie.Need-slice-write-places Inv-loop μ-loop
 slice-write-places c = search store-in
 
--- src/lib.rt:356:9
 add-i : tie.Need-add-i Inv-loop μ-loop
 add-i c = search needs
 
--- src/lib.rt:356:5
 loop-less : tie.Need-loop-less Inv-loop μ-loop
 loop-less c = search needs
 
--- src/lib.rt:356:5
 loop-again : tie.Need-loop-again Inv-loop μ-loop
 loop-again c = (search needs, simp length-set (search needs), search tables-on)
 
--- src/lib.rt:374:9
 word-at-requires-2 : tie.Need-word-at-requires-2 Inv-loop μ-loop
 word-at-requires-2 c κs = search needs
 
--- src/lib.rt:375:8
 kind-requires-2 : tie.Need-kind-requires-2 Inv-loop μ-loop
 kind-requires-2 c κs = search needs
 
--- src/lib.rt:376:9
 same-length-4 : tie.Need-same-length-4 Inv-loop μ-loop
 same-length-4 c = search needs
 
--- src/lib.rt:376:9
 returns-4 : tie.Need-returns-4 Inv-loop μ-loop
 returns-4 c = search tables-end
 
--- src/lib.rt:378:9
 read-table-requires-2 : tie.Need-read-table-requires-2 Inv-loop μ-loop
 read-table-requires-2 c κs = search needs
 
--- src/lib.rt:380:26
 enum-known-table-3 : tie.Need-enum-known-table-3 Inv-loop μ-loop
 enum-known-table-3 c = search needs
 
--- src/lib.rt:381:29
 enum-told : tie.Need-enum-told Inv-loop μ-loop
 enum-told c = search needs
 
--- src/lib.rt:351:1
 same-length-5 : tie.Need-same-length-5 Inv-loop μ-loop
 same-length-5 c = search needs
 
--- src/lib.rt:351:1
 returns-5 : tie.Need-returns-5 Inv-loop μ-loop
 returns-5 c = search tables-last-refused
 
--- src/lib.rt:351:1
 same-length-6 : tie.Need-same-length-6 Inv-loop μ-loop
 same-length-6 c = search needs
 
--- src/lib.rt:351:1
 returns-6 : tie.Need-returns-6 Inv-loop μ-loop
 returns-6 c = search tables-over
 

@@ -20,56 +20,43 @@ Inv-loop words i₀ i = (i ≤ Max.max-variables) × (readVariables words (Max.m
 abbrev μ-loop : tie.MeasureT-loop
 μ-loop words i₀ i = Max.max-variables - i
 
--- src/lib.rt:114:5
 loop-holds : tie.Need-loop-holds Inv-loop μ-loop
 unfolding variablesTo
 loop-holds c = (search needs, refl)
 
--- src/lib.rt:115:13
 word-at-requires : tie.Need-word-at-requires Inv-loop μ-loop
 word-at-requires c κs = search needs
 
--- src/lib.rt:116:12
 kind-requires : tie.Need-kind-requires Inv-loop μ-loop
 kind-requires c κs = search needs
 
--- src/lib.rt:117:13
 returns : tie.Need-returns Inv-loop μ-loop
 returns c = search variables-end
 
--- src/lib.rt:119:13
 variable-ok-requires : tie.Need-variable-ok-requires Inv-loop μ-loop
 variable-ok-requires c κs = search needs
 
--- src/lib.rt:120:13
 returns-2 : tie.Need-returns-2 Inv-loop μ-loop
 returns-2 c = search variables-bad
 
--- src/lib.rt:114:9
 add-i : tie.Need-add-i Inv-loop μ-loop
 add-i c = search needs
 
--- src/lib.rt:114:5
 loop-less : tie.Need-loop-less Inv-loop μ-loop
 loop-less c = search needs
 
--- src/lib.rt:114:5
 loop-again : tie.Need-loop-again Inv-loop μ-loop
 loop-again c = (search needs, search variables-on)
 
--- src/lib.rt:123:9
 word-at-requires-2 : tie.Need-word-at-requires-2 Inv-loop μ-loop
 word-at-requires-2 c κs = search needs
 
--- src/lib.rt:124:8
 kind-requires-2 : tie.Need-kind-requires-2 Inv-loop μ-loop
 kind-requires-2 c κs = search needs
 
--- src/lib.rt:125:9
 returns-3 : tie.Need-returns-3 Inv-loop μ-loop
 returns-3 c = search variables-over
 
--- src/lib.rt:111:1
 returns-4 : tie.Need-returns-4 Inv-loop μ-loop
 returns-4 c = search variables-all
 

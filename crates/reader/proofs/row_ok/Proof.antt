@@ -8,23 +8,18 @@ use Rattle.index.proofs.size_of.Reads as size-of-reads
 use Rattle.word.proofs.mode.Reads as mode-reads
 use Rattle.word.proofs.value.Reads as value-reads
 
--- src/lib.rt:243:9
 mode-requires : tie.Need-mode-requires
 mode-requires c κs = search needs
 
--- src/lib.rt:244:9
 value-requires : tie.Need-value-requires
 value-requires c κs = search needs
 
--- src/lib.rt:245:9
 size-of-requires : tie.Need-size-of-requires
 size-of-requires c κs = search needs
 
--- src/lib.rt:246:9
 size-of-requires-2 : tie.Need-size-of-requires-2
 size-of-requires-2 c κs = search needs
 
--- src/lib.rt:240:1
 returns : tie.Need-returns
 returns c = search row-fields
 

@@ -10,43 +10,33 @@ use Rattle.word.proofs.class_read.Reads as class-read-reads
 use Rattle.word.proofs.defined.Reads as defined-reads
 use Rattle.word.proofs.sort.Reads as sort-reads
 
--- src/lib.rt:315:9
 word-at-requires : tie.Need-word-at-requires
 word-at-requires c κs = search needs
 
--- src/lib.rt:316:13
 defined-requires : tie.Need-defined-requires
 defined-requires c κs = search needs
 
--- src/lib.rt:316:13
 cast-v : tie.Need-cast-v
 cast-v c = search needs
 
--- src/lib.rt:317:13
 class-read-requires : tie.Need-class-read-requires
 class-read-requires c κs = search needs
 
--- src/lib.rt:317:13
 cast-m : tie.Need-cast-m
 cast-m c = search needs
 
--- src/lib.rt:318:9
 class-of-requires : tie.Need-class-of-requires
 class-of-requires c κs = search needs
 
--- src/lib.rt:319:9
 class-of-requires-2 : tie.Need-class-of-requires-2
 class-of-requires-2 c κs = search needs
 
--- src/lib.rt:320:8
 sort-requires : tie.Need-sort-requires
 sort-requires c κs = search needs
 
--- src/lib.rt:312:1
 returns : tie.Need-returns
 returns c = search mode-table-fits
 
--- src/lib.rt:312:1
 returns-2 : tie.Need-returns-2
 returns-2 c = search other-table-fits
 

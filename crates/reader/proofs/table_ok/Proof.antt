@@ -10,35 +10,27 @@ use Rattle.word.proofs.class_read.Reads as class-read-reads
 use Rattle.word.proofs.defined.Reads as defined-reads
 use Rattle.word.proofs.sort.Reads as sort-reads
 
--- src/lib.rt:304:9
 word-at-requires : tie.Need-word-at-requires
 word-at-requires c κs = search needs
 
--- src/lib.rt:305:30
 sort-requires : tie.Need-sort-requires
 sort-requires c κs = search needs
 
--- src/lib.rt:305:9
 within-requires : tie.Need-within-requires
 within-requires c κs = search needs
 
--- src/lib.rt:306:13
 defined-requires : tie.Need-defined-requires
 defined-requires c κs = search needs
 
--- src/lib.rt:306:13
 cast-v : tie.Need-cast-v
 cast-v c = search needs
 
--- src/lib.rt:307:13
 class-read-requires : tie.Need-class-read-requires
 class-read-requires c κs = search needs
 
--- src/lib.rt:307:13
 cast-m : tie.Need-cast-m
 cast-m c = search needs
 
--- src/lib.rt:301:1
 returns : tie.Need-returns
 returns c = search table-fields
 

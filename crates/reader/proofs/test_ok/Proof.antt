@@ -9,27 +9,21 @@ use Rattle.word.proofs.relation.Reads as relation-reads
 use Rattle.word.proofs.value.Reads as value-reads
 use Rattle.word.proofs.variable.Reads as variable-reads
 
--- src/lib.rt:101:13
 variable-requires : tie.Need-variable-requires
 variable-requires c κs = search needs
 
--- src/lib.rt:101:13
 cast-v : tie.Need-cast-v
 cast-v c = search needs
 
--- src/lib.rt:102:9
 relation-requires : tie.Need-relation-requires
 relation-requires c κs = search needs
 
--- src/lib.rt:103:9
 value-requires : tie.Need-value-requires
 value-requires c κs = search needs
 
--- src/lib.rt:104:9
 size-of-requires : tie.Need-size-of-requires
 size-of-requires c κs = search needs
 
--- src/lib.rt:98:1
 returns : tie.Need-returns
 returns c = search test-fields
 

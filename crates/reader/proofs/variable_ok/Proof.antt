@@ -9,27 +9,21 @@ use Rattle.word.proofs.initial.Reads as initial-reads
 use Rattle.word.proofs.size.Reads as size-reads
 use Rattle.word.proofs.sort.Reads as sort-reads
 
--- src/lib.rt:89:9
 sort-requires : tie.Need-sort-requires
 sort-requires c κs = search needs
 
--- src/lib.rt:90:9
 size-requires : tie.Need-size-requires
 size-requires c κs = search needs
 
--- src/lib.rt:91:9
 initial-requires : tie.Need-initial-requires
 initial-requires c κs = search needs
 
--- src/lib.rt:92:9
 within-requires : tie.Need-within-requires
 within-requires c κs = search needs
 
--- src/lib.rt:93:9
 within-requires-2 : tie.Need-within-requires-2
 within-requires-2 c κs = search needs
 
--- src/lib.rt:86:1
 returns : tie.Need-returns
 returns c = search variable-fields
 

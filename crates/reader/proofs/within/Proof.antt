@@ -5,7 +5,6 @@ use Rattle.reader.proofs.within.Tie as tie
 use Rattle.reader.proofs.within.Reads as reads
 use Rattle.reader.proofs.within.Lts as lts
 
--- src/lib.rt:53:1
 returns : tie.Need-returns
 unfolding within
 returns c = refl

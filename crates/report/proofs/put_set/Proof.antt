@@ -9,43 +9,33 @@ use Rattle.report.proofs.lines.put_refusal.Reads as put-refusal-reads
 use Rattle.report.proofs.runs.put_run.Reads as put-run-reads
 use Rattle.scr.proofs.check.Reads as check-reads
 
--- src/lib.rt:30:9
 check-requires : tie.Need-check-requires
 check-requires c κs = search needs
 
--- src/lib.rt:32:23
 enum-known-verdict : tie.Need-enum-known-verdict
 enum-known-verdict c = search needs
 
--- src/lib.rt:33:17
 put-pass-requires : tie.Need-put-pass-requires
 put-pass-requires c κs = search needs
 
--- src/lib.rt:34:13
 put-run-requires : tie.Need-put-run-requires
 put-run-requires c κs = (search needs, search pass-passed)
 
--- src/lib.rt:36:26
 enum-known-verdict-2 : tie.Need-enum-known-verdict-2
 enum-known-verdict-2 c = search needs
 
--- src/lib.rt:36:32
 put-refusal-requires : tie.Need-put-refusal-requires
 put-refusal-requires c κs = search needs
 
--- src/lib.rt:25:1
 same-length : tie.Need-same-length
 same-length c = search needs
 
--- src/lib.rt:25:1
 returns : tie.Need-returns
 returns c = (search set-passed, search needs)
 
--- src/lib.rt:25:1
 same-length-2 : tie.Need-same-length-2
 same-length-2 c = search needs
 
--- src/lib.rt:25:1
 returns-2 : tie.Need-returns-2
 returns-2 c = (search set-refused, search needs)
 

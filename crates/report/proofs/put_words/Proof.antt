@@ -7,47 +7,36 @@ use Rattle.report.proofs.put_words.Lts as lts
 use Rattle.report.proofs.parts.first_event.Reads as first-event-reads
 use Rattle.report.proofs.put_set.Reads as put-set-reads
 
--- src/lib.rt:46:9
 first-event-requires : tie.Need-first-event-requires
 first-event-requires c κs = search needs
 
--- src/lib.rt:47:18
 sub-put-set : tie.Need-sub-put-set
 sub-put-set c = search needs
 
--- src/lib.rt:47:18
 part-put-set-start : tie.Need-part-put-set-start
 part-put-set-start c = search needs
 
--- src/lib.rt:47:18
 part-put-set-end : tie.Need-part-put-set-end
 part-put-set-end c = search needs
 
--- src/lib.rt:47:32
 mul-put-set : tie.Need-mul-put-set
 mul-put-set c = search needs
 
--- src/lib.rt:47:32
 sub-put-set-2 : tie.Need-sub-put-set-2
 sub-put-set-2 c = search needs
 
--- src/lib.rt:47:32
 part-put-set-start-2 : tie.Need-part-put-set-start-2
 part-put-set-start-2 c = search needs
 
--- src/lib.rt:47:32
 part-put-set-end-2 : tie.Need-part-put-set-end-2
 part-put-set-end-2 c = search needs
 
--- src/lib.rt:47:5
 put-set-requires : tie.Need-put-set-requires
 put-set-requires c κs = search needs
 
--- src/lib.rt:41:1
 same-length : tie.Need-same-length
 same-length c = search needs
 
--- src/lib.rt:41:1
 returns : tie.Need-returns
 returns c = (search words-put, search needs)
 

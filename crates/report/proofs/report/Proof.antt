@@ -7,35 +7,27 @@ use Rattle.report.proofs.report.Lts as lts
 use Rattle.report.proofs.input.fill.Reads as fill-reads
 use Rattle.report.proofs.put_words.Reads as put-words-reads
 
--- src/lib.rt:58:32
 slice-aggregate-fill : tie.Need-slice-aggregate-fill
 slice-aggregate-fill c = search needs
 
--- src/lib.rt:58:9
 fill-requires : tie.Need-fill-requires
 fill-requires c κs = search needs
 
--- src/lib.rt:59:20
 sub-put-words : tie.Need-sub-put-words
 sub-put-words c = search needs
 
--- src/lib.rt:59:20
 part-put-words-start : tie.Need-part-put-words-start
 part-put-words-start c = search needs
 
--- src/lib.rt:59:20
 part-put-words-end : tie.Need-part-put-words-end
 part-put-words-end c = search needs
 
--- src/lib.rt:59:5
 put-words-requires : tie.Need-put-words-requires
 put-words-requires c κs = search needs
 
--- src/lib.rt:52:1
 same-length : tie.Need-same-length
 same-length c = search needs
 
--- src/lib.rt:52:1
 returns : tie.Need-returns
 returns c = (search reported, (search needs, search counted))
 

@@ -8,59 +8,45 @@ use Rattle.scr.proofs.check.Lts as lts
 use Rattle.scr.proofs.opening.open.Reads as open-reads
 use Rattle.scr.proofs.verdicts.verdict.Reads as verdict-reads
 
--- src/lib.rt:140:25
 slice-aggregate-open : tie.Need-slice-aggregate-open
 slice-aggregate-open c = search needs
 
--- src/lib.rt:140:38
 slice-aggregate-open-2 : tie.Need-slice-aggregate-open-2
 slice-aggregate-open-2 c = search needs
 
--- src/lib.rt:140:52
 slice-aggregate-open-3 : tie.Need-slice-aggregate-open-3
 slice-aggregate-open-3 c = search needs
 
--- src/lib.rt:140:9
 open-requires : tie.Need-open-requires
 open-requires c κs = search needs
 
--- src/lib.rt:142:25
 enum-known-o : tie.Need-enum-known-o
 enum-known-o c = search needs
 
--- src/lib.rt:143:21
 enum-known-o-2 : tie.Need-enum-known-o-2
 enum-known-o-2 c = search needs
 
--- src/lib.rt:143:48
 slice-aggregate-verdict : tie.Need-slice-aggregate-verdict
 slice-aggregate-verdict c = search needs
 
--- src/lib.rt:143:57
 slice-aggregate-verdict-2 : tie.Need-slice-aggregate-verdict-2
 slice-aggregate-verdict-2 c = search needs
 
--- src/lib.rt:143:67
 sub-verdict : tie.Need-sub-verdict
 sub-verdict c = search needs
 
--- src/lib.rt:143:67
 part-verdict-start : tie.Need-part-verdict-start
 part-verdict-start c = search needs
 
--- src/lib.rt:143:67
 part-verdict-end : tie.Need-part-verdict-end
 part-verdict-end c = search order-room
 
--- src/lib.rt:143:33
 verdict-requires : tie.Need-verdict-requires
 verdict-requires c κs = (search index-few, search states-room, search set-known)
 
--- src/lib.rt:133:1
 returns : tie.Need-returns
 returns c = (search check-refused, (check-demand _ _ (search check-refused), demand-2 _ _ (search check-refused)))
 
--- src/lib.rt:133:1
 returns-2 : tie.Need-returns-2
 returns-2 c = (search check-set, (check-demand _ _ (search check-set), demand-2 _ _ (search check-set)))
 

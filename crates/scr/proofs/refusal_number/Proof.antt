@@ -5,155 +5,121 @@ use Rattle.scr.proofs.refusal_number.Tie as tie
 use Rattle.scr.proofs.refusal_number.Reads as reads
 use Rattle.scr.proofs.refusal_number.Lts as lts
 
--- src/lib.rt:99:31
 enum-told : tie.Need-enum-told
 enum-told c = search needs
 
--- src/lib.rt:100:29
 enum-told-2 : tie.Need-enum-told-2
 enum-told-2 c = search needs
 
--- src/lib.rt:101:30
 enum-told-3 : tie.Need-enum-told-3
 enum-told-3 c = search needs
 
--- src/lib.rt:102:30
 enum-told-4 : tie.Need-enum-told-4
 enum-told-4 c = search needs
 
--- src/lib.rt:103:28
 enum-told-5 : tie.Need-enum-told-5
 enum-told-5 c = search needs
 
--- src/lib.rt:104:32
 enum-told-6 : tie.Need-enum-told-6
 enum-told-6 c = search needs
 
--- src/lib.rt:105:37
 enum-told-7 : tie.Need-enum-told-7
 enum-told-7 c = search needs
 
--- src/lib.rt:106:31
 enum-told-8 : tie.Need-enum-told-8
 enum-told-8 c = search needs
 
--- src/lib.rt:107:30
 enum-told-9 : tie.Need-enum-told-9
 enum-told-9 c = search needs
 
--- src/lib.rt:108:28
 enum-told-10 : tie.Need-enum-told-10
 enum-told-10 c = search needs
 
--- src/lib.rt:109:32
 enum-told-11 : tie.Need-enum-told-11
 enum-told-11 c = search needs
 
--- src/lib.rt:110:36
 enum-told-12 : tie.Need-enum-told-12
 enum-told-12 c = search needs
 
--- src/lib.rt:111:39
 enum-told-13 : tie.Need-enum-told-13
 enum-told-13 c = search needs
 
--- src/lib.rt:112:31
 enum-told-14 : tie.Need-enum-told-14
 enum-told-14 c = search needs
 
--- src/lib.rt:113:32
 enum-told-15 : tie.Need-enum-told-15
 enum-told-15 c = search needs
 
--- src/lib.rt:114:35
 enum-told-16 : tie.Need-enum-told-16
 enum-told-16 c = search needs
 
--- src/lib.rt:115:29
 enum-told-17 : tie.Need-enum-told-17
 enum-told-17 c = search needs
 
--- src/lib.rt:95:1
 returns : tie.Need-returns
 unfolding refusalSays
 returns c = search needs
 
--- src/lib.rt:95:1
 returns-2 : tie.Need-returns-2
 unfolding refusalSays
 returns-2 c = search needs
 
--- src/lib.rt:95:1
 returns-3 : tie.Need-returns-3
 unfolding refusalSays
 returns-3 c = search needs
 
--- src/lib.rt:95:1
 returns-4 : tie.Need-returns-4
 unfolding refusalSays
 returns-4 c = search needs
 
--- src/lib.rt:95:1
 returns-5 : tie.Need-returns-5
 unfolding refusalSays
 returns-5 c = search needs
 
--- src/lib.rt:95:1
 returns-6 : tie.Need-returns-6
 unfolding refusalSays
 returns-6 c = search needs
 
--- src/lib.rt:95:1
 returns-7 : tie.Need-returns-7
 unfolding refusalSays
 returns-7 c = search needs
 
--- src/lib.rt:95:1
 returns-8 : tie.Need-returns-8
 unfolding refusalSays
 returns-8 c = search needs
 
--- src/lib.rt:95:1
 returns-9 : tie.Need-returns-9
 unfolding refusalSays
 returns-9 c = search needs
 
--- src/lib.rt:95:1
 returns-10 : tie.Need-returns-10
 unfolding refusalSays
 returns-10 c = search needs
 
--- src/lib.rt:95:1
 returns-11 : tie.Need-returns-11
 unfolding refusalSays
 returns-11 c = search needs
 
--- src/lib.rt:95:1
 returns-12 : tie.Need-returns-12
 unfolding refusalSays
 returns-12 c = search needs
 
--- src/lib.rt:95:1
 returns-13 : tie.Need-returns-13
 unfolding refusalSays
 returns-13 c = search needs
 
--- src/lib.rt:95:1
 returns-14 : tie.Need-returns-14
 unfolding refusalSays
 returns-14 c = search needs
 
--- src/lib.rt:95:1
 returns-15 : tie.Need-returns-15
 unfolding refusalSays
 returns-15 c = search needs
 
--- src/lib.rt:95:1
 returns-16 : tie.Need-returns-16
 unfolding refusalSays
 returns-16 c = search needs
 
--- src/lib.rt:95:1
 returns-17 : tie.Need-returns-17
 unfolding refusalSays
 returns-17 c = search needs

@@ -10,67 +10,51 @@ use Rattle.part.proofs.part_end.Reads as part-end-reads
 use Rattle.part.proofs.part_start.Reads as part-start-reads
 use Rattle.scr.proofs.calls.reads.Reads as reads-reads
 
--- src/lib.rt:153:9
 reads-requires : tie.Need-reads-requires
 reads-requires c κs = search needs
 
--- src/lib.rt:154:16
 sub-result : tie.Need-sub-result
 sub-result c = search needs
 
--- src/lib.rt:154:16
 part-result-start : tie.Need-part-result-start
 part-result-start c = search needs
 
--- src/lib.rt:154:16
 part-result-end : tie.Need-part-result-end
 part-result-end c = search needs
 
--- src/lib.rt:154:9
 returns : tie.Need-returns
 returns c = (search rows-unread, rows-demand _ _ _ (search rows-unread))
 
--- src/lib.rt:156:9
 part-start-requires : tie.Need-part-start-requires
 part-start-requires c κs = search needs
 
--- src/lib.rt:158:16
 sub-result-2 : tie.Need-sub-result-2
 sub-result-2 c = search needs
 
--- src/lib.rt:158:16
 part-result-start-2 : tie.Need-part-result-start-2
 part-result-start-2 c = search needs
 
--- src/lib.rt:158:16
 part-result-end-2 : tie.Need-part-result-end-2
 part-result-end-2 c = search needs
 
--- src/lib.rt:158:9
 returns-2 : tie.Need-returns-2
 returns-2 c = (search rows-none, rows-demand _ _ _ (search rows-none))
 
--- src/lib.rt:160:9
 part-end-requires : tie.Need-part-end-requires
 part-end-requires c κs = search needs
 
--- src/lib.rt:161:5
 mul-result : tie.Need-mul-result
 mul-result c = search needs
 
--- src/lib.rt:161:5
 sub-result-3 : tie.Need-sub-result-3
 sub-result-3 c = search end-after
 
--- src/lib.rt:161:5
 part-result-start-3 : tie.Need-part-result-start-3
 part-result-start-3 c = search end-after
 
--- src/lib.rt:161:5
 part-result-end-3 : tie.Need-part-result-end-3
 part-result-end-3 c = search end-within
 
--- src/lib.rt:150:1
 returns-3 : tie.Need-returns-3
 returns-3 c = (search rows-part, rows-demand _ _ _ (search rows-part))
 

@@ -8,47 +8,36 @@ use Rattle.scr.proofs.start.Lts as lts
 use Rattle.scr.proofs.opening.open.Reads as open-reads
 use Rattle.state.proofs.initial_state.Reads as initial-state-reads
 
--- src/lib.rt:109:25
 slice-aggregate-open : tie.Need-slice-aggregate-open
 slice-aggregate-open c = search needs
 
--- src/lib.rt:109:38
 slice-aggregate-open-2 : tie.Need-slice-aggregate-open-2
 slice-aggregate-open-2 c = search needs
 
--- src/lib.rt:109:52
 slice-aggregate-open-3 : tie.Need-slice-aggregate-open-3
 slice-aggregate-open-3 c = search needs
 
--- src/lib.rt:109:9
 open-requires : tie.Need-open-requires
 open-requires c κs = search needs
 
--- src/lib.rt:111:25
 enum-known-o : tie.Need-enum-known-o
 enum-known-o c = search needs
 
--- src/lib.rt:112:21
 enum-known-o-2 : tie.Need-enum-known-o-2
 enum-known-o-2 c = search needs
 
--- src/lib.rt:112:68
 slice-aggregate-initial-state : tie.Need-slice-aggregate-initial-state
 slice-aggregate-initial-state c = search needs
 
--- src/lib.rt:112:77
 slice-aggregate-initial-state-2 : tie.Need-slice-aggregate-initial-state-2
 slice-aggregate-initial-state-2 c = search needs
 
--- src/lib.rt:112:47
 initial-state-requires : tie.Need-initial-state-requires
 initial-state-requires c κs = search index-few
 
--- src/lib.rt:103:1
 returns : tie.Need-returns
 returns c = (search start-refused, start-demand _ _ (search start-refused))
 
--- src/lib.rt:103:1
 returns-2 : tie.Need-returns-2
 returns-2 c = (search start-set, start-demand _ _ (search start-set))
 

@@ -8,63 +8,48 @@ use Rattle.scr.proofs.values.Lts as lts
 use Rattle.scr.proofs.calls.values.Reads as values-reads
 use Rattle.scr.proofs.opening.open.Reads as open-reads
 
--- src/lib.rt:149:25
 slice-aggregate-open : tie.Need-slice-aggregate-open
 slice-aggregate-open c = search needs
 
--- src/lib.rt:149:38
 slice-aggregate-open-2 : tie.Need-slice-aggregate-open-2
 slice-aggregate-open-2 c = search needs
 
--- src/lib.rt:149:52
 slice-aggregate-open-3 : tie.Need-slice-aggregate-open-3
 slice-aggregate-open-3 c = search needs
 
--- src/lib.rt:149:9
 open-requires : tie.Need-open-requires
 open-requires c κs = search needs
 
--- src/lib.rt:151:25
 enum-known-o : tie.Need-enum-known-o
 enum-known-o c = search needs
 
--- src/lib.rt:152:21
 enum-known-o-2 : tie.Need-enum-known-o-2
 enum-known-o-2 c = search needs
 
--- src/lib.rt:154:13
 slice-aggregate-values : tie.Need-slice-aggregate-values
 slice-aggregate-values c = search needs
 
--- src/lib.rt:155:13
 slice-aggregate-values-2 : tie.Need-slice-aggregate-values-2
 slice-aggregate-values-2 c = search needs
 
--- src/lib.rt:156:13
 sub-values : tie.Need-sub-values
 sub-values c = search needs
 
--- src/lib.rt:156:13
 part-values-start : tie.Need-part-values-start
 part-values-start c = search needs
 
--- src/lib.rt:156:13
 part-values-end : tie.Need-part-values-end
 part-values-end c = search order-room
 
--- src/lib.rt:152:33
 values-requires : tie.Need-values-requires
 values-requires c κs = search index-few
 
--- src/lib.rt:142:1
 returns : tie.Need-returns
 returns c = (search values-refused, (search kept-refused, search (values-demand, values-refused)))
 
--- src/lib.rt:142:1
 same-length : tie.Need-same-length
 same-length c = search needs
 
--- src/lib.rt:142:1
 returns-2 : tie.Need-returns-2
 returns-2 c = (search values-set, (search written-set, search (values-demand, values-set)))
 

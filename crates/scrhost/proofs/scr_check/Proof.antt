@@ -9,39 +9,30 @@ use Rattle.scrhost.proofs.numbers.check_number.Reads as check-number-re
 use Rattle.scrhost.proofs.words.copy_words.Reads as copy-words-reads
 use Rattle.scrhost.proofs.words.fits.Reads as fits-reads
 
--- src/lib.rt:23:9
 fits-requires : tie.Need-fits-requires
 fits-requires c κs = search needs
 
--- src/lib.rt:24:9
 returns : tie.Need-returns
 returns c = search check-unfit
 
--- src/lib.rt:28:23
 slice-aggregate-copy-words : tie.Need-slice-aggregate-copy-words
 slice-aggregate-copy-words c = search needs
 
--- src/lib.rt:28:5
 copy-words-requires : tie.Need-copy-words-requires
 copy-words-requires c κs = (search room, search needs)
 
--- src/lib.rt:29:24
 array-share-prefix-words : tie.Need-array-share-prefix-words
 array-share-prefix-words c = search room
 
--- src/lib.rt:29:24
 slice-aggregate-check : tie.Need-slice-aggregate-check
 slice-aggregate-check c = search lent
 
--- src/lib.rt:29:18
 check-requires : tie.Need-check-requires
 check-requires c κs = search needs
 
--- src/lib.rt:29:5
 check-number-requires : tie.Need-check-number-requires
 check-number-requires c κs = search needs
 
--- src/lib.rt:19:1
 returns-2 : tie.Need-returns-2
 returns-2 c = search check-words
 

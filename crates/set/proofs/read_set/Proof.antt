@@ -7,71 +7,54 @@ use Rattle.set.proofs.read_set.Lts as lts
 use Rattle.order.proofs.order_tables.Reads as order-tables-reads
 use Rattle.reader.proofs.read_typed.Reads as read-typed-reads
 
--- src/lib.rt:27:9
 read-typed-requires : tie.Need-read-typed-requires
 read-typed-requires c κs = search needs
 
--- src/lib.rt:29:24
 enum-known-t : tie.Need-enum-known-t
 enum-known-t c = search needs
 
--- src/lib.rt:30:20
 enum-known-t-2 : tie.Need-enum-known-t-2
 enum-known-t-2 c = search needs
 
--- src/lib.rt:31:17
 order-tables-requires : tie.Need-order-tables-requires
 order-tables-requires c κs = (search index-few, search needs)
 
--- src/lib.rt:33:31
 enum-told : tie.Need-enum-told
 enum-told c = search needs
 
--- src/lib.rt:34:30
 enum-known-o : tie.Need-enum-known-o
 enum-known-o c = search needs
 
--- src/lib.rt:18:1
 same-length : tie.Need-same-length
 same-length c = search needs
 
--- src/lib.rt:18:1
 same-length-2 : tie.Need-same-length-2
 same-length-2 c = search needs
 
--- src/lib.rt:18:1
 returns : tie.Need-returns
 returns c = search set-refused
 
--- src/lib.rt:18:1
 same-length-3 : tie.Need-same-length-3
 same-length-3 c = search needs
 
--- src/lib.rt:18:1
 same-length-4 : tie.Need-same-length-4
 same-length-4 c = search needs
 
--- src/lib.rt:18:1
 same-length-5 : tie.Need-same-length-5
 same-length-5 c = search needs
 
--- src/lib.rt:18:1
 returns-2 : tie.Need-returns-2
 returns-2 c = search set-all
 
--- src/lib.rt:18:1
 same-length-6 : tie.Need-same-length-6
 same-length-6 c = search needs
 
--- src/lib.rt:18:1
 same-length-7 : tie.Need-same-length-7
 same-length-7 c = search needs
 
--- src/lib.rt:18:1
 same-length-8 : tie.Need-same-length-8
 same-length-8 c = search needs
 
--- src/lib.rt:18:1
 returns-3 : tie.Need-returns-3
 returns-3 c = search set-cycle
 

@@ -6,19 +6,15 @@ use Rattle.simulator.proofs.altered.Reads as reads
 use Rattle.simulator.proofs.altered.Lts as lts
 use Rattle.index.proofs.value_of.Reads as value-of-reads
 
--- src/lib.rt:90:9
 value-of-requires : tie.Need-value-of-requires
 value-of-requires c κs = search needs
 
--- src/lib.rt:90:9
 returns : tie.Need-returns
 returns c = search altered-other
 
--- src/lib.rt:93:9
 returns-2 : tie.Need-returns-2
 returns-2 c = search altered-past
 
--- src/lib.rt:86:1
 returns-3 : tie.Need-returns-3
 returns-3 c = search altered-here
 

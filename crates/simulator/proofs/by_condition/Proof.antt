@@ -9,47 +9,36 @@ use Rattle.index.proofs.wide.Reads as wide-reads
 use Rattle.judge.proofs.condition_rows.Reads as condition-rows-reads
 use Rattle.word.proofs.class_read.Reads as class-read-reads
 
--- src/lib.rt:30:13
 class-read-requires : tie.Need-class-read-requires
 class-read-requires c κs = search needs
 
--- src/lib.rt:30:13
 cast-m : tie.Need-cast-m
 cast-m c = search needs
 
--- src/lib.rt:31:21
 value-of-requires : tie.Need-value-of-requires
 value-of-requires c κs = search needs
 
--- src/lib.rt:31:9
 wide-requires : tie.Need-wide-requires
 wide-requires c κs = search needs
 
--- src/lib.rt:32:9
 condition-rows-requires : tie.Need-condition-rows-requires
 condition-rows-requires c κs = search needs
 
--- src/lib.rt:34:25
 enum-told : tie.Need-enum-told
 enum-told c = search needs
 
--- src/lib.rt:35:21
 enum-known-got : tie.Need-enum-known-got
 enum-known-got c = search needs
 
--- src/lib.rt:36:18
 enum-known-got-2 : tie.Need-enum-known-got-2
 enum-known-got-2 c = search needs
 
--- src/lib.rt:27:1
 returns : tie.Need-returns
 returns c = search condition-gap
 
--- src/lib.rt:27:1
 returns-2 : tie.Need-returns-2
 returns-2 c = search condition-one
 
--- src/lib.rt:27:1
 returns-3 : tie.Need-returns-3
 returns-3 c = search condition-two
 

@@ -9,51 +9,39 @@ use Rattle.index.proofs.wide.Reads as wide-reads
 use Rattle.judge.proofs.event_rows.Reads as event-rows-reads
 use Rattle.word.proofs.class_read.Reads as class-read-reads
 
--- src/lib.rt:44:13
 class-read-requires : tie.Need-class-read-requires
 class-read-requires c κs = search needs
 
--- src/lib.rt:44:13
 cast-m : tie.Need-cast-m
 cast-m c = search needs
 
--- src/lib.rt:45:21
 value-of-requires : tie.Need-value-of-requires
 value-of-requires c κs = search needs
 
--- src/lib.rt:45:9
 wide-requires : tie.Need-wide-requires
 wide-requires c κs = search needs
 
--- src/lib.rt:46:9
 value-of-requires-2 : tie.Need-value-of-requires-2
 value-of-requires-2 c κs = search needs
 
--- src/lib.rt:47:9
 event-rows-requires : tie.Need-event-rows-requires
 event-rows-requires c κs = search needs
 
--- src/lib.rt:49:25
 enum-told : tie.Need-enum-told
 enum-told c = search needs
 
--- src/lib.rt:50:21
 enum-known-got : tie.Need-enum-known-got
 enum-known-got c = search needs
 
--- src/lib.rt:51:18
 enum-known-got-2 : tie.Need-enum-known-got-2
 enum-known-got-2 c = search needs
 
--- src/lib.rt:41:1
 returns : tie.Need-returns
 returns c = search event-none
 
--- src/lib.rt:41:1
 returns-2 : tie.Need-returns-2
 returns-2 c = search event-one
 
--- src/lib.rt:41:1
 returns-3 : tie.Need-returns-3
 returns-3 c = search event-two
 

@@ -10,39 +10,30 @@ use Rattle.simulator.proofs.by_condition.Reads as by-condition-reads
 use Rattle.simulator.proofs.by_event.Reads as by-event-reads
 use Rattle.word.proofs.sort.Reads as sort-reads
 
--- src/lib.rt:74:9
 place-of-requires : tie.Need-place-of-requires
 place-of-requires c κs = search needs
 
--- src/lib.rt:76:9
 returns : tie.Need-returns
 returns c = search after-none
 
--- src/lib.rt:78:28
 sub-word-at : tie.Need-sub-word-at
 sub-word-at c = search needs
 
--- src/lib.rt:78:9
 word-at-requires : tie.Need-word-at-requires
 word-at-requires c κs = search needs
 
--- src/lib.rt:79:8
 sort-requires : tie.Need-sort-requires
 sort-requires c κs = search needs
 
--- src/lib.rt:80:9
 by-condition-requires : tie.Need-by-condition-requires
 by-condition-requires c κs = search needs
 
--- src/lib.rt:80:9
 returns-2 : tie.Need-returns-2
 returns-2 c = search after-condition
 
--- src/lib.rt:82:5
 by-event-requires : tie.Need-by-event-requires
 by-event-requires c κs = search needs
 
--- src/lib.rt:71:1
 returns-3 : tie.Need-returns-3
 returns-3 c = search after-event
 

@@ -9,35 +9,27 @@ use Rattle.index.proofs.word_at.Reads as word-at-reads
 use Rattle.simulator.proofs.by_condition.Reads as by-condition-reads
 use Rattle.word.proofs.sort.Reads as sort-reads
 
--- src/lib.rt:59:9
 place-of-requires : tie.Need-place-of-requires
 place-of-requires c κs = search needs
 
--- src/lib.rt:61:9
 returns : tie.Need-returns
 returns c = search in-none
 
--- src/lib.rt:63:28
 sub-word-at : tie.Need-sub-word-at
 sub-word-at c = search needs
 
--- src/lib.rt:63:9
 word-at-requires : tie.Need-word-at-requires
 word-at-requires c κs = search needs
 
--- src/lib.rt:64:8
 sort-requires : tie.Need-sort-requires
 sort-requires c κs = search needs
 
--- src/lib.rt:65:9
 returns-2 : tie.Need-returns-2
 returns-2 c = search in-held
 
--- src/lib.rt:67:5
 by-condition-requires : tie.Need-by-condition-requires
 by-condition-requires c κs = search needs
 
--- src/lib.rt:56:1
 returns-3 : tie.Need-returns-3
 returns-3 c = search in-condition
 

@@ -18,87 +18,66 @@ Inv-loop words places weights order s values₀ i₀ i-end values i = (i ≤ len
 abbrev μ-loop : tie.MeasureT-loop
 μ-loop words places weights order s values₀ i₀ i-end values i = length order - i
 
--- src/lib.rt:143:5
 loop-holds : tie.Need-loop-holds Inv-loop μ-loop
 loop-holds c = (search needs, refl, refl)
 
--- src/lib.rt:144:17
 mul-v : tie.Need-mul-v Inv-loop μ-loop
 mul-v c = search needs
 
--- src/lib.rt:144:17
 shared-slice-read-v : tie.Need-shared-slice-read-v Inv-loop μ-loop
 shared-slice-read-v c = search needs
 
--- src/lib.rt:145:13
 digit-of-requires : tie.Need-digit-of-requires Inv-loop μ-loop
 digit-of-requires c κs = search needs
 
--- src/lib.rt:146:13
 given-in-requires : tie.Need-given-in-requires Inv-loop μ-loop
 given-in-requires c κs = search needs
 
--- src/lib.rt:148:27
 enum-told : tie.Need-enum-told Inv-loop μ-loop
 enum-told c = search needs
 
--- src/lib.rt:148:27
 same-length : tie.Need-same-length Inv-loop μ-loop
 same-length c = search needs
 
--- src/lib.rt:148:27
 returns : tie.Need-returns Inv-loop μ-loop
 returns c = (search state-gap, search needs)
 
--- src/lib.rt:149:28
 enum-known-g : tie.Need-enum-known-g Inv-loop μ-loop
 enum-known-g c = search needs
 
--- src/lib.rt:149:37
 same-length-2 : tie.Need-same-length-2 Inv-loop μ-loop
 same-length-2 c = search needs
 
--- src/lib.rt:149:37
 returns-2 : tie.Need-returns-2 Inv-loop μ-loop
 returns-2 c = (search state-overlap, search needs)
 
--- src/lib.rt:150:32
 enum-known-g-2 : tie.Need-enum-known-g-2 Inv-loop μ-loop
 enum-known-g-2 c = search needs
 
--- src/lib.rt:150:41
 same-length-3 : tie.Need-same-length-3 Inv-loop μ-loop
 same-length-3 c = search needs
 
--- src/lib.rt:150:41
 returns-3 : tie.Need-returns-3 Inv-loop μ-loop
 returns-3 c = (search state-step, search needs)
 
--- src/lib.rt:151:23
 enum-known-g-3 : tie.Need-enum-known-g-3 Inv-loop μ-loop
 enum-known-g-3 c = search needs
 
--- src/lib.rt:151:29
 put-requires : tie.Need-put-requires Inv-loop μ-loop
 put-requires c κs = search needs
 
--- src/lib.rt:143:9
 add-i : tie.Need-add-i Inv-loop μ-loop
 add-i c = search needs
 
--- src/lib.rt:143:5
 loop-less : tie.Need-loop-less Inv-loop μ-loop
 loop-less c = search needs
 
--- src/lib.rt:143:5
 loop-again : tie.Need-loop-again Inv-loop μ-loop
 loop-again c = (search needs, search kept-length, search state-on)
 
--- src/lib.rt:132:1
 same-length-4 : tie.Need-same-length-4 Inv-loop μ-loop
 same-length-4 c = search needs
 
--- src/lib.rt:132:1
 returns-4 : tie.Need-returns-4 Inv-loop μ-loop
 returns-4 c = (search state-done, search needs)
 

@@ -18,87 +18,66 @@ Inv-loop words places order before variable value after₀ i₀ i-end after i = 
 abbrev μ-loop : tie.MeasureT-loop
 μ-loop words places order before variable value after₀ i₀ i-end after i = length order - i
 
--- src/lib.rt:137:5
 loop-holds : tie.Need-loop-holds Inv-loop μ-loop
 loop-holds c = (search needs, refl, refl)
 
--- src/lib.rt:138:17
 mul-v : tie.Need-mul-v Inv-loop μ-loop
 mul-v c = search needs
 
--- src/lib.rt:138:17
 shared-slice-read-v : tie.Need-shared-slice-read-v Inv-loop μ-loop
 shared-slice-read-v c = search needs
 
--- src/lib.rt:139:13
 altered-requires : tie.Need-altered-requires Inv-loop μ-loop
 altered-requires c κs = search needs
 
--- src/lib.rt:140:13
 given-after-requires : tie.Need-given-after-requires Inv-loop μ-loop
 given-after-requires c κs = search needs
 
--- src/lib.rt:142:27
 enum-told : tie.Need-enum-told Inv-loop μ-loop
 enum-told c = search needs
 
--- src/lib.rt:142:27
 same-length : tie.Need-same-length Inv-loop μ-loop
 same-length c = search needs
 
--- src/lib.rt:142:27
 returns : tie.Need-returns Inv-loop μ-loop
 returns c = (search step-gap, search needs)
 
--- src/lib.rt:143:28
 enum-known-g : tie.Need-enum-known-g Inv-loop μ-loop
 enum-known-g c = search needs
 
--- src/lib.rt:143:37
 same-length-2 : tie.Need-same-length-2 Inv-loop μ-loop
 same-length-2 c = search needs
 
--- src/lib.rt:143:37
 returns-2 : tie.Need-returns-2 Inv-loop μ-loop
 returns-2 c = (search step-overlap, search needs)
 
--- src/lib.rt:144:32
 enum-known-g-2 : tie.Need-enum-known-g-2 Inv-loop μ-loop
 enum-known-g-2 c = search needs
 
--- src/lib.rt:144:41
 same-length-3 : tie.Need-same-length-3 Inv-loop μ-loop
 same-length-3 c = search needs
 
--- src/lib.rt:144:41
 returns-3 : tie.Need-returns-3 Inv-loop μ-loop
 returns-3 c = (search step-step, search needs)
 
--- src/lib.rt:145:23
 enum-known-g-3 : tie.Need-enum-known-g-3 Inv-loop μ-loop
 enum-known-g-3 c = search needs
 
--- src/lib.rt:145:29
 put-requires : tie.Need-put-requires Inv-loop μ-loop
 put-requires c κs = search needs
 
--- src/lib.rt:137:9
 add-i : tie.Need-add-i Inv-loop μ-loop
 add-i c = search needs
 
--- src/lib.rt:137:5
 loop-less : tie.Need-loop-less Inv-loop μ-loop
 loop-less c = search needs
 
--- src/lib.rt:137:5
 loop-again : tie.Need-loop-again Inv-loop μ-loop
 loop-again c = (search needs, search kept-length, search step-on)
 
--- src/lib.rt:134:1
 same-length-4 : tie.Need-same-length-4 Inv-loop μ-loop
 same-length-4 c = search needs
 
--- src/lib.rt:134:1
 returns-4 : tie.Need-returns-4 Inv-loop μ-loop
 returns-4 c = (search step-done, search needs)
 

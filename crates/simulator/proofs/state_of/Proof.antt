@@ -6,15 +6,12 @@ use Rattle.simulator.proofs.state_of.Reads as reads
 use Rattle.simulator.proofs.state_of.Lts as lts
 use Rattle.state.proofs.number_of.Reads as number-of-reads
 
--- src/lib.rt:215:9
 number-of-requires : tie.Need-number-of-requires
 number-of-requires c κs = search needs
 
--- src/lib.rt:216:20
 cast-t7 : tie.Need-cast-t7
 cast-t7 c = search needs
 
--- src/lib.rt:211:1
 returns : tie.Need-returns
 returns c = search state-is
 

@@ -10,75 +10,57 @@ use Rattle.simulator.proofs.state_of.Reads as state-of-reads
 use Rattle.word.proofs.given.Reads as given-reads
 use Rattle.word.proofs.variable.Reads as variable-reads
 
--- src/lib.rt:224:5
 copy-requires : tie.Need-copy-requires
 copy-requires c κs = search needs
 
--- src/lib.rt:225:13
 variable-requires : tie.Need-variable-requires
 variable-requires c κs = search needs
 
--- src/lib.rt:225:13
 cast-v : tie.Need-cast-v
 cast-v c = search needs
 
--- src/lib.rt:226:9
 given-requires : tie.Need-given-requires
 given-requires c κs = search needs
 
--- src/lib.rt:227:9
 settle-step-requires : tie.Need-settle-step-requires
 settle-step-requires c κs = search needs
 
--- src/lib.rt:229:22
 enum-known-r : tie.Need-enum-known-r
 enum-known-r c = search needs
 
--- src/lib.rt:230:26
 enum-known-r-2 : tie.Need-enum-known-r-2
 enum-known-r-2 c = search needs
 
--- src/lib.rt:231:30
 enum-known-r-3 : tie.Need-enum-known-r-3
 enum-known-r-3 c = search needs
 
--- src/lib.rt:232:59
 enum-told : tie.Need-enum-told
 enum-told c = search needs
 
--- src/lib.rt:232:26
 state-of-requires : tie.Need-state-of-requires
 state-of-requires c κs = search needs
 
--- src/lib.rt:220:1
 same-length : tie.Need-same-length
 same-length c = search needs
 
--- src/lib.rt:220:1
 returns : tie.Need-returns
 returns c = search after-gap
 
--- src/lib.rt:220:1
 same-length-2 : tie.Need-same-length-2
 same-length-2 c = search needs
 
--- src/lib.rt:220:1
 returns-2 : tie.Need-returns-2
 returns-2 c = search after-overlap
 
--- src/lib.rt:220:1
 same-length-3 : tie.Need-same-length-3
 same-length-3 c = search needs
 
--- src/lib.rt:220:1
 returns-3 : tie.Need-returns-3
 returns-3 c = search after-step
 
--- src/lib.rt:220:1
 same-length-4 : tie.Need-same-length-4
 same-length-4 c = search needs
 
--- src/lib.rt:220:1
 returns-4 : tie.Need-returns-4
 returns-4 c = search after-done
 

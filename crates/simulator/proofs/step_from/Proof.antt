@@ -8,71 +8,54 @@ use Rattle.simulator.proofs.step_after.Reads as step-after-reads
 use Rattle.simulator.proofs.values_in.Reads as values-in-reads
 use Rattle.state.proofs.is_enabled.Reads as is-enabled-reads
 
--- src/lib.rt:241:9
 is-enabled-requires : tie.Need-is-enabled-requires
 is-enabled-requires c κs = search needs
 
--- src/lib.rt:242:9
 returns : tie.Need-returns
 returns c = search not-enabled
 
--- src/lib.rt:244:9
 values-in-requires : tie.Need-values-in-requires
 values-in-requires c κs = search needs
 
--- src/lib.rt:246:22
 enum-known-r : tie.Need-enum-known-r
 enum-known-r c = search needs
 
--- src/lib.rt:247:26
 enum-known-r-2 : tie.Need-enum-known-r-2
 enum-known-r-2 c = search needs
 
--- src/lib.rt:248:30
 enum-known-r-3 : tie.Need-enum-known-r-3
 enum-known-r-3 c = search needs
 
--- src/lib.rt:249:71
 enum-told : tie.Need-enum-told
 enum-told c = search needs
 
--- src/lib.rt:249:26
 step-after-requires : tie.Need-step-after-requires
 step-after-requires c κs = search needs
 
--- src/lib.rt:237:1
 same-length : tie.Need-same-length
 same-length c = search needs
 
--- src/lib.rt:237:1
 returns-2 : tie.Need-returns-2
 returns-2 c = search from-gap
 
--- src/lib.rt:237:1
 same-length-2 : tie.Need-same-length-2
 same-length-2 c = search needs
 
--- src/lib.rt:237:1
 returns-3 : tie.Need-returns-3
 returns-3 c = search from-overlap
 
--- src/lib.rt:237:1
 same-length-3 : tie.Need-same-length-3
 same-length-3 c = search needs
 
--- src/lib.rt:237:1
 returns-4 : tie.Need-returns-4
 returns-4 c = search from-step
 
--- src/lib.rt:237:1
 same-length-4 : tie.Need-same-length-4
 same-length-4 c = search needs
 
--- src/lib.rt:237:1
 same-length-5 : tie.Need-same-length-5
 same-length-5 c = search needs
 
--- src/lib.rt:237:1
 returns-5 : tie.Need-returns-5
 returns-5 c = search from-done
 

@@ -7,19 +7,15 @@ use Rattle.simulator.proofs.values_in.Lts as lts
 use Rattle.simulator.proofs.settle_state.Reads as settle-state-reads
 use Rattle.state.proofs.fill_held.Reads as fill-held-reads
 
--- src/lib.rt:196:5
 fill-held-requires : tie.Need-fill-held-requires
 fill-held-requires c κs = search needs
 
--- src/lib.rt:197:5
 settle-state-requires : tie.Need-settle-state-requires
 settle-state-requires c κs = search needs
 
--- src/lib.rt:185:1
 same-length : tie.Need-same-length
 same-length c = search needs
 
--- src/lib.rt:185:1
 returns : tie.Need-returns
 returns c = (search values-are, search values-long)
 

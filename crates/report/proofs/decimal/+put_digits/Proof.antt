@@ -20,7 +20,6 @@ abbrev put-digits-below : ℕ → In 1 put-digits-kinds.ps
 put-digits-below t =
     and 1 put-digits-kinds.ps (falls 1 put-digits-kinds.ps _<_ μ-put-digits t) put-digits.Pre
 
--- src/decimal.rt:28:9
 put-digits-returns :
     (t : ℕ) →
     put-digits-lts.Need-returns
@@ -29,7 +28,6 @@ put-digits-returns :
     put-digits.Post
 put-digits-returns t c = (search digits-none, search needs)
 
--- src/decimal.rt:31:24
 put-digits-cast-out :
     (t : ℕ) →
     put-digits-lts.Need-cast-out
@@ -38,7 +36,6 @@ put-digits-cast-out :
     put-digits.Post
 put-digits-cast-out t c = search needs
 
--- src/decimal.rt:31:19
 put-digits-add-out :
     (t : ℕ) →
     put-digits-lts.Need-add-out
@@ -47,84 +44,72 @@ put-digits-add-out :
     put-digits.Post
 put-digits-add-out t c = search needs
 
--- src/decimal.rt:31:9
 put-digits-slice-write-out : (t : ℕ) → put-digits-lts.Need-slice-write-out (
   put-digits-below t,
   put-digits.Post,
 ) (put-digits-at t) put-digits.Post
 put-digits-slice-write-out t c = search needs
 
--- src/decimal.rt:32:16
 put-digits-add-result : (t : ℕ) → put-digits-lts.Need-add-result (
   put-digits-below t,
   put-digits.Post,
 ) (put-digits-at t) put-digits.Post
 put-digits-add-result t c = search needs
 
--- src/decimal.rt:32:9
 put-digits-same-length : (t : ℕ) → put-digits-lts.Need-same-length (
   put-digits-below t,
   put-digits.Post,
 ) (put-digits-at t) put-digits.Post
 put-digits-same-length t c = search needs
 
--- src/decimal.rt:32:9
 put-digits-returns-2 : (t : ℕ) → put-digits-lts.Need-returns-2 (
   put-digits-below t,
   put-digits.Post,
 ) (put-digits-at t) put-digits.Post
 put-digits-returns-2 t c = (search one-digit, search needs)
 
--- src/decimal.rt:34:42
 put-digits-sub-put-digits : (t : ℕ) → put-digits-lts.Need-sub-put-digits (
   put-digits-below t,
   put-digits.Post,
 ) (put-digits-at t) put-digits.Post
 put-digits-sub-put-digits t c = search needs
 
--- src/decimal.rt:34:9
 put-digits-put-digits-requires : (t : ℕ) → put-digits-lts.Need-put-digits-requires (
   put-digits-below t,
   put-digits.Post,
 ) (put-digits-at t) put-digits.Post
 put-digits-put-digits-requires t c κs = search needs
 
--- src/decimal.rt:35:20
 put-digits-cast-out-2 : (t : ℕ) → put-digits-lts.Need-cast-out-2 (
   put-digits-below t,
   put-digits.Post,
 ) (put-digits-at t) put-digits.Post
 put-digits-cast-out-2 t c = search needs
 
--- src/decimal.rt:35:15
 put-digits-add-out-2 : (t : ℕ) → put-digits-lts.Need-add-out-2 (
   put-digits-below t,
   put-digits.Post,
 ) (put-digits-at t) put-digits.Post
 put-digits-add-out-2 t c = search needs
 
--- src/decimal.rt:35:5
 put-digits-slice-write-out-2 : (t : ℕ) → put-digits-lts.Need-slice-write-out-2 (
   put-digits-below t,
   put-digits.Post,
 ) (put-digits-at t) put-digits.Post
 put-digits-slice-write-out-2 t c = search needs
 
--- src/decimal.rt:36:5
 put-digits-add-result-2 : (t : ℕ) → put-digits-lts.Need-add-result-2 (
   put-digits-below t,
   put-digits.Post,
 ) (put-digits-at t) put-digits.Post
 put-digits-add-result-2 t c = search needs
 
--- src/decimal.rt:22:1
 put-digits-same-length-2 : (t : ℕ) → put-digits-lts.Need-same-length-2 (
   put-digits-below t,
   put-digits.Post,
 ) (put-digits-at t) put-digits.Post
 put-digits-same-length-2 t c = search needs
 
--- src/decimal.rt:22:1
 put-digits-returns-3 : (t : ℕ) → put-digits-lts.Need-returns-3 (
   put-digits-below t,
   put-digits.Post,

@@ -5,19 +5,15 @@ use Rattle.report.proofs.decimal.put.Tie as tie
 use Rattle.report.proofs.decimal.put.Reads as reads
 use Rattle.report.proofs.decimal.put.Lts as lts
 
--- src/decimal.rt:17:5
 slice-write-out : tie.Need-slice-write-out
 slice-write-out c = search needs
 
--- src/decimal.rt:18:5
 add-result : tie.Need-add-result
 add-result c = search needs
 
--- src/decimal.rt:12:1
 same-length : tie.Need-same-length
 same-length c = search needs
 
--- src/decimal.rt:12:1
 returns : tie.Need-returns
 returns c = (search put-one, search needs)
 

@@ -6,15 +6,12 @@ use Rattle.report.proofs.decimal.put_number.Reads as reads
 use Rattle.report.proofs.decimal.put_number.Lts as lts
 use Rattle.report.proofs.decimal.put_digits.Reads as put-digits-reads
 
--- src/decimal.rt:44:5
 put-digits-requires : tie.Need-put-digits-requires
 put-digits-requires c κs = search needs
 
--- src/decimal.rt:39:1
 same-length : tie.Need-same-length
 same-length c = search needs
 
--- src/decimal.rt:39:1
 returns : tie.Need-returns
 returns c = (search number-put, search needs)
 

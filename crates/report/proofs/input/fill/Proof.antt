@@ -18,43 +18,33 @@ Inv-loop bytes words₀ n i₀ words i = (i ≤ n) × (length words ≡ length w
 abbrev μ-loop : tie.MeasureT-loop
 μ-loop bytes words₀ n i₀ words i = n - i
 
--- src/input.rt:50:9
 word-count-requires : tie.Need-word-count-requires Inv-loop μ-loop
 word-count-requires c κs = search needs
 
--- src/input.rt:51:5
 loop-holds : tie.Need-loop-holds Inv-loop μ-loop
 loop-holds c = (search needs, refl, search filled-none)
 
--- src/input.rt:52:20
 word-in-requires : tie.Need-word-in-requires Inv-loop μ-loop
 word-in-requires c κs = search needs
 
--- src/input.rt:52:9
 mul-words : tie.Need-mul-words Inv-loop μ-loop
 mul-words c = search needs
 
--- src/input.rt:52:9
 slice-write-words : tie.Need-slice-write-words Inv-loop μ-loop
 slice-write-words c = search needs
 
--- src/input.rt:51:9
 add-i : tie.Need-add-i Inv-loop μ-loop
 add-i c = search needs
 
--- src/input.rt:51:5
 loop-less : tie.Need-loop-less Inv-loop μ-loop
 loop-less c = search needs
 
--- src/input.rt:51:5
 loop-again : tie.Need-loop-again Inv-loop μ-loop
 loop-again c = (search needs, simp length-set (search needs), search filled-on)
 
--- src/input.rt:45:1
 same-length : tie.Need-same-length Inv-loop μ-loop
 same-length c = search needs
 
--- src/input.rt:45:1
 returns : tie.Need-returns Inv-loop μ-loop
 returns c = (search filled-all, search needs)
 

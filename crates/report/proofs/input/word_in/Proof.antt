@@ -6,87 +6,66 @@ use Rattle.report.proofs.input.word_in.Reads as reads
 use Rattle.report.proofs.input.word_in.Lts as lts
 use Rattle.report.proofs.input.wide.Reads as wide-reads
 
--- src/input.rt:23:14
 mul-at : tie.Need-mul-at
 mul-at c = search needs
 
--- src/input.rt:24:22
 add-if1 : tie.Need-add-if1
 add-if1 c = search needs
 
--- src/input.rt:25:9
 returns : tie.Need-returns
 returns c = search word-broken
 
--- src/input.rt:27:10
 shared-slice-read-wide : tie.Need-shared-slice-read-wide
 shared-slice-read-wide c = search needs
 
--- src/input.rt:27:5
 wide-requires : tie.Need-wide-requires
 wide-requires c κs = search needs
 
--- src/input.rt:28:22
 add-wide : tie.Need-add-wide
 add-wide c = search needs
 
--- src/input.rt:28:16
 shared-slice-read-wide-2 : tie.Need-shared-slice-read-wide-2
 shared-slice-read-wide-2 c = search needs
 
--- src/input.rt:28:11
 wide-requires-2 : tie.Need-wide-requires-2
 wide-requires-2 c κs = search needs
 
--- src/input.rt:28:11
 mul-result : tie.Need-mul-result
 mul-result c = search needs
 
--- src/input.rt:27:5
 add-result : tie.Need-add-result
 add-result c = search needs
 
--- src/input.rt:29:22
 add-wide-2 : tie.Need-add-wide-2
 add-wide-2 c = search needs
 
--- src/input.rt:29:16
 shared-slice-read-wide-3 : tie.Need-shared-slice-read-wide-3
 shared-slice-read-wide-3 c = search needs
 
--- src/input.rt:29:11
 wide-requires-3 : tie.Need-wide-requires-3
 wide-requires-3 c κs = search needs
 
--- src/input.rt:29:11
 mul-result-2 : tie.Need-mul-result-2
 mul-result-2 c = search needs
 
--- src/input.rt:27:5
 add-result-2 : tie.Need-add-result-2
 add-result-2 c = search needs
 
--- src/input.rt:30:22
 add-wide-3 : tie.Need-add-wide-3
 add-wide-3 c = search needs
 
--- src/input.rt:30:16
 shared-slice-read-wide-4 : tie.Need-shared-slice-read-wide-4
 shared-slice-read-wide-4 c = search needs
 
--- src/input.rt:30:11
 wide-requires-4 : tie.Need-wide-requires-4
 wide-requires-4 c κs = search needs
 
--- src/input.rt:30:11
 mul-result-3 : tie.Need-mul-result-3
 mul-result-3 c = search needs
 
--- src/input.rt:27:5
 add-result-3 : tie.Need-add-result-3
 add-result-3 c = search needs
 
--- src/input.rt:19:1
 returns-2 : tie.Need-returns-2
 returns-2 c = search word-whole
 

@@ -10,43 +10,33 @@ use Rattle.report.proofs.lines.put_fields.Reads as put-fields-reads
 use Rattle.word.proofs.value.Reads as value-reads
 use Rattle.word.proofs.variable.Reads as variable-reads
 
--- src/lines.rt:92:9
 word-at-requires : tie.Need-word-at-requires
 word-at-requires c κs = search needs
 
--- src/lines.rt:93:20
 variable-requires : tie.Need-variable-requires
 variable-requires c κs = search needs
 
--- src/lines.rt:93:20
 cast-put-number : tie.Need-cast-put-number
 cast-put-number c = search needs
 
--- src/lines.rt:93:40
 value-requires : tie.Need-value-requires
 value-requires c κs = search needs
 
--- src/lines.rt:93:40
 cast-t12 : tie.Need-cast-t12
 cast-t12 c = search needs
 
--- src/lines.rt:94:9
 put-number-requires : tie.Need-put-number-requires
 put-number-requires c κs = search needs
 
--- src/lines.rt:95:25
 slice-aggregate-put-fields : tie.Need-slice-aggregate-put-fields
 slice-aggregate-put-fields c = search needs
 
--- src/lines.rt:95:5
 put-fields-requires : tie.Need-put-fields-requires
 put-fields-requires c κs = search needs
 
--- src/lines.rt:87:1
 same-length : tie.Need-same-length
 same-length c = search needs
 
--- src/lines.rt:87:1
 returns : tie.Need-returns
 returns c = (search event-put, search needs)
 

@@ -18,39 +18,30 @@ Inv-loop out₀ at events states on₀ i₀ i-end out on i = (i ≤ length state
 abbrev μ-loop : tie.MeasureT-loop
 μ-loop out₀ at events states on₀ i₀ i-end out on i = length states - i
 
--- src/lines.rt:105:5
 loop-holds : tie.Need-loop-holds Inv-loop μ-loop
 loop-holds c = (search needs, search needs, refl, refl)
 
--- src/lines.rt:106:44
 mul-put-event : tie.Need-mul-put-event Inv-loop μ-loop
 mul-put-event c = search needs
 
--- src/lines.rt:106:44
 shared-slice-read-put-event : tie.Need-shared-slice-read-put-event Inv-loop μ-loop
 shared-slice-read-put-event c = search needs
 
--- src/lines.rt:106:9
 put-event-requires : tie.Need-put-event-requires Inv-loop μ-loop
 put-event-requires c κs = search needs
 
--- src/lines.rt:105:9
 add-i : tie.Need-add-i Inv-loop μ-loop
 add-i c = search needs
 
--- src/lines.rt:105:5
 loop-less : tie.Need-loop-less Inv-loop μ-loop
 loop-less c = search needs
 
--- src/lines.rt:105:5
 loop-again : tie.Need-loop-again Inv-loop μ-loop
 loop-again c = (search needs, search needs, search needs, search events-on)
 
--- src/lines.rt:99:1
 same-length : tie.Need-same-length Inv-loop μ-loop
 same-length c = search needs
 
--- src/lines.rt:99:1
 returns : tie.Need-returns Inv-loop μ-loop
 returns c = (search events-end, search needs)
 

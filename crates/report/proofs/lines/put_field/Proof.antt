@@ -7,19 +7,15 @@ use Rattle.report.proofs.lines.put_field.Lts as lts
 use Rattle.report.proofs.decimal.put.Reads as put-reads
 use Rattle.report.proofs.decimal.put_number.Reads as put-number-reads
 
--- src/lines.rt:40:9
 put-requires : tie.Need-put-requires
 put-requires c κs = search needs
 
--- src/lines.rt:41:5
 put-number-requires : tie.Need-put-number-requires
 put-number-requires c κs = search needs
 
--- src/lines.rt:35:1
 same-length : tie.Need-same-length
 same-length c = search needs
 
--- src/lines.rt:35:1
 returns : tie.Need-returns
 returns c = (search field-put, search needs)
 

@@ -19,43 +19,33 @@ Inv-loop out₀ at numbers on₀ i₀ i-end out on i = (i ≤ length numbers) ×
 abbrev μ-loop : tie.MeasureT-loop
 μ-loop out₀ at numbers on₀ i₀ i-end out on i = length numbers - i
 
--- src/lines.rt:51:5
 loop-holds : tie.Need-loop-holds Inv-loop μ-loop
 loop-holds c = (search needs, search needs, refl, refl)
 
--- src/lines.rt:52:33
 mul-put-field : tie.Need-mul-put-field Inv-loop μ-loop
 mul-put-field c = search needs
 
--- src/lines.rt:52:33
 shared-slice-read-put-field : tie.Need-shared-slice-read-put-field Inv-loop μ-loop
 shared-slice-read-put-field c = search needs
 
--- src/lines.rt:52:9
 put-field-requires : tie.Need-put-field-requires Inv-loop μ-loop
 put-field-requires c κs = search needs
 
--- src/lines.rt:51:9
 add-i : tie.Need-add-i Inv-loop μ-loop
 add-i c = search needs
 
--- src/lines.rt:51:5
 loop-less : tie.Need-loop-less Inv-loop μ-loop
 loop-less c = search needs
 
--- src/lines.rt:51:5
 loop-again : tie.Need-loop-again Inv-loop μ-loop
 loop-again c = (search needs, search needs, search needs, search fields-on)
 
--- src/lines.rt:54:5
 put-requires : tie.Need-put-requires Inv-loop μ-loop
 put-requires c κs = search needs
 
--- src/lines.rt:45:1
 same-length : tie.Need-same-length Inv-loop μ-loop
 same-length c = search needs
 
--- src/lines.rt:45:1
 returns : tie.Need-returns Inv-loop μ-loop
 returns c = (search fields-end, search needs)
 

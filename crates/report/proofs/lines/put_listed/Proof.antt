@@ -6,27 +6,21 @@ use Rattle.report.proofs.lines.put_listed.Reads as reads
 use Rattle.report.proofs.lines.put_listed.Lts as lts
 use Rattle.report.proofs.lines.put_fields.Reads as put-fields-reads
 
--- src/lines.rt:65:25
 sub-put-fields : tie.Need-sub-put-fields
 sub-put-fields c = search needs
 
--- src/lines.rt:65:25
 part-put-fields-start : tie.Need-part-put-fields-start
 part-put-fields-start c = search needs
 
--- src/lines.rt:65:25
 part-put-fields-end : tie.Need-part-put-fields-end
 part-put-fields-end c = search needs
 
--- src/lines.rt:65:5
 put-fields-requires : tie.Need-put-fields-requires
 put-fields-requires c κs = search needs
 
--- src/lines.rt:58:1
 same-length : tie.Need-same-length
 same-length c = search needs
 
--- src/lines.rt:58:1
 returns : tie.Need-returns
 returns c = (search listed-put, search needs)
 

@@ -17,35 +17,27 @@ Inv-loop out₀ at name on₀ i₀ i-end out on i = (i ≤ length name) × (on �
 abbrev μ-loop : tie.MeasureT-loop
 μ-loop out₀ at name on₀ i₀ i-end out on i = length name - i
 
--- src/lines.rt:28:5
 loop-holds : tie.Need-loop-holds Inv-loop μ-loop
 loop-holds c = (search needs, search needs, refl, search name-none)
 
--- src/lines.rt:29:27
 shared-slice-read-put : tie.Need-shared-slice-read-put Inv-loop μ-loop
 shared-slice-read-put c = search needs
 
--- src/lines.rt:29:9
 put-requires : tie.Need-put-requires Inv-loop μ-loop
 put-requires c κs = search needs
 
--- src/lines.rt:28:9
 add-i : tie.Need-add-i Inv-loop μ-loop
 add-i c = search needs
 
--- src/lines.rt:28:5
 loop-less : tie.Need-loop-less Inv-loop μ-loop
 loop-less c = search needs
 
--- src/lines.rt:28:5
 loop-again : tie.Need-loop-again Inv-loop μ-loop
 loop-again c = (search needs, search needs, search needs, search name-on)
 
--- src/lines.rt:22:1
 same-length : tie.Need-same-length Inv-loop μ-loop
 same-length c = search needs
 
--- src/lines.rt:22:1
 returns : tie.Need-returns Inv-loop μ-loop
 returns c = (search name-all, search needs)
 

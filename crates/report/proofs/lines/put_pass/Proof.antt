@@ -8,27 +8,21 @@ use Rattle.report.proofs.fields.counts.Reads as counts-reads
 use Rattle.report.proofs.lines.put_listed.Reads as put-listed-reads
 use Rattle.report.proofs.lines.put_name.Reads as put-name-reads
 
--- src/lines.rt:73:32
 slice-aggregate-put-name : tie.Need-slice-aggregate-put-name
 slice-aggregate-put-name c = search needs
 
--- src/lines.rt:73:9
 put-name-requires : tie.Need-put-name-requires
 put-name-requires c κs = search needs
 
--- src/lines.rt:74:25
 counts-requires : tie.Need-counts-requires
 counts-requires c κs = search needs
 
--- src/lines.rt:74:5
 put-listed-requires : tie.Need-put-listed-requires
 put-listed-requires c κs = search needs
 
--- src/lines.rt:68:1
 same-length : tie.Need-same-length
 same-length c = search needs
 
--- src/lines.rt:68:1
 returns : tie.Need-returns
 returns c = (search pass-put, search needs)
 

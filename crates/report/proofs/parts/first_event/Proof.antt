@@ -18,31 +18,24 @@ Inv-loop words i₀ i-end i = (i ≤ length words) × (least (isEvent words) i �
 abbrev μ-loop : tie.MeasureT-loop
 μ-loop words i₀ i-end i = length words - i
 
--- src/parts.rt:21:5
 loop-holds : tie.Need-loop-holds Inv-loop μ-loop
 loop-holds c = (search needs, unfold least in refl)
 
--- src/parts.rt:22:12
 is-event-requires : tie.Need-is-event-requires Inv-loop μ-loop
 is-event-requires c κs = search needs
 
--- src/parts.rt:23:13
 returns : tie.Need-returns Inv-loop μ-loop
 returns c = (search event-here, search needs)
 
--- src/parts.rt:21:9
 add-i : tie.Need-add-i Inv-loop μ-loop
 add-i c = search needs
 
--- src/parts.rt:21:5
 loop-less : tie.Need-loop-less Inv-loop μ-loop
 loop-less c = search needs
 
--- src/parts.rt:21:5
 loop-again : tie.Need-loop-again Inv-loop μ-loop
 loop-again c = (search needs, search event-on)
 
--- src/parts.rt:17:1
 returns-2 : tie.Need-returns-2 Inv-loop μ-loop
 returns-2 c = (search event-none, search needs)
 

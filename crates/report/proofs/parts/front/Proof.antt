@@ -5,23 +5,18 @@ use Rattle.report.proofs.parts.front.Tie as tie
 use Rattle.report.proofs.parts.front.Reads as reads
 use Rattle.report.proofs.parts.front.Lts as lts
 
--- src/parts.rt:35:9
 returns : tie.Need-returns
 returns c = (search front-all, search needs)
 
--- src/parts.rt:37:5
 sub-result : tie.Need-sub-result
 sub-result c = search needs
 
--- src/parts.rt:37:5
 part-result-start : tie.Need-part-result-start
 part-result-start c = search needs
 
--- src/parts.rt:37:5
 part-result-end : tie.Need-part-result-end
 part-result-end c = search needs
 
--- src/parts.rt:30:1
 returns-2 : tie.Need-returns-2
 returns-2 c = (search front-part, search front-few)
 

@@ -7,15 +7,12 @@ use Rattle.report.proofs.parts.is_event.Lts as lts
 use Rattle.index.proofs.word_at.Reads as word-at-reads
 use Rattle.word.proofs.kind.Reads as kind-reads
 
--- src/parts.rt:13:10
 word-at-requires : tie.Need-word-at-requires
 word-at-requires c κs = search needs
 
--- src/parts.rt:13:5
 kind-requires : tie.Need-kind-requires
 kind-requires c κs = search needs
 
--- src/parts.rt:10:1
 returns : tie.Need-returns
 returns c = search is-event-is
 

@@ -5,15 +5,12 @@ use Rattle.report.proofs.runs.done_before.Tie as tie
 use Rattle.report.proofs.runs.done_before.Reads as reads
 use Rattle.report.proofs.runs.done_before.Lts as lts
 
--- src/runs.rt:26:29
 enum-known-q : tie.Need-enum-known-q
 enum-known-q c = search needs
 
--- src/runs.rt:22:1
 returns : tie.Need-returns
 returns c = search done-16
 
--- src/runs.rt:22:1
 returns-2 : tie.Need-returns-2
 returns-2 c = search done-none
 

@@ -9,51 +9,39 @@ use Rattle.report.proofs.lines.put_refusal.Reads as put-refusal-reads
 use Rattle.report.proofs.parts.front.Reads as front-reads
 use Rattle.report.proofs.runs.done_before.Reads as done-before-reads
 
--- src/runs.rt:38:40
 enum-told : tie.Need-enum-told
 enum-told c = search needs
 
--- src/runs.rt:38:57
 front-requires : tie.Need-front-requires
 front-requires c κs = search needs
 
--- src/runs.rt:38:29
 put-events-requires : tie.Need-put-events-requires
 put-events-requires c κs = search needs
 
--- src/runs.rt:39:25
 enum-known-answer : tie.Need-enum-known-answer
 enum-known-answer c = search needs
 
--- src/runs.rt:40:64
 done-before-requires : tie.Need-done-before-requires
 done-before-requires c κs = search needs
 
--- src/runs.rt:40:50
 front-requires-2 : tie.Need-front-requires-2
 front-requires-2 c κs = search needs
 
--- src/runs.rt:40:17
 put-events-requires-2 : tie.Need-put-events-requires-2
 put-events-requires-2 c κs = search needs
 
--- src/runs.rt:41:13
 put-refusal-requires : tie.Need-put-refusal-requires
 put-refusal-requires c κs = search needs
 
--- src/runs.rt:32:1
 same-length : tie.Need-same-length
 same-length c = search needs
 
--- src/runs.rt:32:1
 returns : tie.Need-returns
 returns c = (search ran-state, search needs)
 
--- src/runs.rt:32:1
 same-length-2 : tie.Need-same-length-2
 same-length-2 c = search needs
 
--- src/runs.rt:32:1
 returns-2 : tie.Need-returns-2
 returns-2 c = (search ran-refused, search needs)
 

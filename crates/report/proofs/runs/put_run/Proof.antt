@@ -8,43 +8,33 @@ use Rattle.report.proofs.runs.put_ran.Reads as put-ran-reads
 use Rattle.scr.proofs.run.Reads as run-reads
 use Rattle.scr.proofs.start.Reads as start-reads
 
--- src/runs.rt:52:9
 start-requires : tie.Need-start-requires
 start-requires c κs = search needs
 
--- src/runs.rt:54:23
 enum-known-initial : tie.Need-enum-known-initial
 enum-known-initial c = search needs
 
--- src/runs.rt:56:51
 slice-aggregate-run : tie.Need-slice-aggregate-run
 slice-aggregate-run c = search needs
 
--- src/runs.rt:56:17
 run-requires : tie.Need-run-requires
 run-requires c κs = search needs
 
--- src/runs.rt:57:38
 slice-aggregate-put-ran : tie.Need-slice-aggregate-put-ran
 slice-aggregate-put-ran c = search needs
 
--- src/runs.rt:57:13
 put-ran-requires : tie.Need-put-ran-requires
 put-ran-requires c κs = search needs
 
--- src/runs.rt:59:31
 enum-told : tie.Need-enum-told
 enum-told c = search needs
 
--- src/runs.rt:47:1
 same-length : tie.Need-same-length
 same-length c = search needs
 
--- src/runs.rt:47:1
 returns : tie.Need-returns
 returns c = (search run-put, search needs)
 
--- src/runs.rt:47:1
 returns-2 : tie.Need-returns-2
 returns-2 c = (search start-put, search needs)
 

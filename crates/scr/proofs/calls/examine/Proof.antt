@@ -10,75 +10,57 @@ use Rattle.scr.proofs.refusals.overlap.Reads as overlap-reads
 use Rattle.scr.proofs.refusals.step_overlap.Reads as step-overlap-reads
 use Rattle.simulator.proofs.values_in.Reads as values-in-reads
 
--- src/calls.rt:65:9
 values-in-requires : tie.Need-values-in-requires
 values-in-requires c κs = search needs
 
--- src/calls.rt:67:22
 enum-known-r : tie.Need-enum-known-r
 enum-known-r c = search needs
 
--- src/calls.rt:67:43
 gap-requires : tie.Need-gap-requires
 gap-requires c κs = search needs
 
--- src/calls.rt:68:26
 enum-known-r-2 : tie.Need-enum-known-r-2
 enum-known-r-2 c = search needs
 
--- src/calls.rt:68:53
 overlap-requires : tie.Need-overlap-requires
 overlap-requires c κs = search needs
 
--- src/calls.rt:69:30
 enum-known-r-3 : tie.Need-enum-known-r-3
 enum-known-r-3 c = search needs
 
--- src/calls.rt:69:57
 step-overlap-requires : tie.Need-step-overlap-requires
 step-overlap-requires c κs = search needs
 
--- src/calls.rt:71:25
 enum-told : tie.Need-enum-told
 enum-told c = search needs
 
--- src/calls.rt:71:13
 write-front-requires : tie.Need-write-front-requires
 write-front-requires c κs = search needs
 
--- src/calls.rt:60:1
 same-length : tie.Need-same-length
 same-length c = search needs
 
--- src/calls.rt:60:1
 returns : tie.Need-returns
 returns c = (search gap-count, search gap-kept)
 
--- src/calls.rt:60:1
 same-length-2 : tie.Need-same-length-2
 same-length-2 c = search needs
 
--- src/calls.rt:60:1
 returns-2 : tie.Need-returns-2
 returns-2 c = (search overlap-count, search overlap-kept)
 
--- src/calls.rt:60:1
 same-length-3 : tie.Need-same-length-3
 same-length-3 c = search needs
 
--- src/calls.rt:60:1
 returns-3 : tie.Need-returns-3
 returns-3 c = (search step-count, search step-kept)
 
--- src/calls.rt:60:1
 same-length-4 : tie.Need-same-length-4
 same-length-4 c = search needs
 
--- src/calls.rt:60:1
 same-length-5 : tie.Need-same-length-5
 same-length-5 c = search needs
 
--- src/calls.rt:60:1
 returns-4 : tie.Need-returns-4
 returns-4 c = (done-count _ _ _ _ _ _ _ _ _ (search) (c .before .before .before .before .before .before .before .before .before .values-in .ensures .0) (search) (c .before .before .before .before .before .before .before .before .before .values-in .ensures .1), search done-written)
 

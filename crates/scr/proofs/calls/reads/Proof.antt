@@ -6,35 +6,27 @@ use Rattle.scr.proofs.calls.reads.Reads as reads
 use Rattle.scr.proofs.calls.reads.Lts as lts
 use Rattle.scr.proofs.opening.open.Reads as open-reads
 
--- src/calls.rt:28:25
 slice-aggregate-open : tie.Need-slice-aggregate-open
 slice-aggregate-open c = search needs
 
--- src/calls.rt:28:38
 slice-aggregate-open-2 : tie.Need-slice-aggregate-open-2
 slice-aggregate-open-2 c = search needs
 
--- src/calls.rt:28:52
 slice-aggregate-open-3 : tie.Need-slice-aggregate-open-3
 slice-aggregate-open-3 c = search needs
 
--- src/calls.rt:28:9
 open-requires : tie.Need-open-requires
 open-requires c κs = search needs
 
--- src/calls.rt:30:31
 enum-told : tie.Need-enum-told
 enum-told c = search needs
 
--- src/calls.rt:31:33
 enum-told-2 : tie.Need-enum-told-2
 enum-told-2 c = search needs
 
--- src/calls.rt:22:1
 returns : tie.Need-returns
 returns c = search reads-refused
 
--- src/calls.rt:22:1
 returns-2 : tie.Need-returns-2
 returns-2 c = search reads-set
 

@@ -8,75 +8,57 @@ use Rattle.scr.proofs.refusals.cycle.Reads as cycle-reads
 use Rattle.scr.proofs.refusals.reading.Reads as reading-reads
 use Rattle.set.proofs.read_set.Reads as read-set-reads
 
--- src/opening.rt:22:9
 read-set-requires : tie.Need-read-set-requires
 read-set-requires c κs = search needs
 
--- src/opening.rt:24:26
 enum-known-r : tie.Need-enum-known-r
 enum-known-r c = search needs
 
--- src/opening.rt:24:51
 reading-requires : tie.Need-reading-requires
 reading-requires c κs = (search reading-low, search reading-high)
 
--- src/opening.rt:25:24
 enum-known-r-2 : tie.Need-enum-known-r-2
 enum-known-r-2 c = search needs
 
--- src/opening.rt:25:49
 cycle-requires : tie.Need-cycle-requires
 cycle-requires c κs = search needs
 
--- src/opening.rt:26:22
 enum-known-r-3 : tie.Need-enum-known-r-3
 enum-known-r-3 c = search needs
 
--- src/opening.rt:18:1
 same-length : tie.Need-same-length
 same-length c = search needs
 
--- src/opening.rt:18:1
 same-length-2 : tie.Need-same-length-2
 same-length-2 c = search needs
 
--- src/opening.rt:18:1
 same-length-3 : tie.Need-same-length-3
 same-length-3 c = search needs
 
--- src/opening.rt:18:1
 returns : tie.Need-returns
 returns c = search open-refused
 
--- src/opening.rt:18:1
 same-length-4 : tie.Need-same-length-4
 same-length-4 c = search needs
 
--- src/opening.rt:18:1
 same-length-5 : tie.Need-same-length-5
 same-length-5 c = search needs
 
--- src/opening.rt:18:1
 same-length-6 : tie.Need-same-length-6
 same-length-6 c = search needs
 
--- src/opening.rt:18:1
 returns-2 : tie.Need-returns-2
 returns-2 c = search open-cycle
 
--- src/opening.rt:18:1
 same-length-7 : tie.Need-same-length-7
 same-length-7 c = search needs
 
--- src/opening.rt:18:1
 same-length-8 : tie.Need-same-length-8
 same-length-8 c = search needs
 
--- src/opening.rt:18:1
 same-length-9 : tie.Need-same-length-9
 same-length-9 c = search needs
 
--- src/opening.rt:18:1
 returns-3 : tie.Need-returns-3
 returns-3 c = search open-set
 

@@ -6,7 +6,6 @@ use Rattle.scr.proofs.refusals.broken.Tie as tie
 use Rattle.scr.proofs.refusals.broken.Reads as reads
 use Rattle.scr.proofs.refusals.broken.Lts as lts
 
--- src/refusals.rt:130:1
 returns : tie.Need-returns
 unfolding refusalSays
 returns c = refl

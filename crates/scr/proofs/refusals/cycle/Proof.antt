@@ -6,7 +6,6 @@ use Rattle.scr.proofs.refusals.cycle.Tie as tie
 use Rattle.scr.proofs.refusals.cycle.Reads as reads
 use Rattle.scr.proofs.refusals.cycle.Lts as lts
 
--- src/refusals.rt:36:1
 returns : tie.Need-returns
 unfolding refusalSays
 returns c = refl

@@ -6,7 +6,6 @@ use Rattle.scr.proofs.refusals.gap.Tie as tie
 use Rattle.scr.proofs.refusals.gap.Reads as reads
 use Rattle.scr.proofs.refusals.gap.Lts as lts
 
--- src/refusals.rt:43:1
 returns : tie.Need-returns
 unfolding refusalSays
 returns c = refl

@@ -6,7 +6,6 @@ use Rattle.scr.proofs.refusals.overlap.Tie as tie
 use Rattle.scr.proofs.refusals.overlap.Reads as reads
 use Rattle.scr.proofs.refusals.overlap.Lts as lts
 
--- src/refusals.rt:50:1
 returns : tie.Need-returns
 unfolding refusalSays
 returns c = refl

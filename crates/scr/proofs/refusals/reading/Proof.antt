@@ -5,35 +5,27 @@ use Rattle.scr.proofs.refusals.reading.Tie as tie
 use Rattle.scr.proofs.refusals.reading.Reads as reads
 use Rattle.scr.proofs.refusals.reading.Lts as lts
 
--- src/refusals.rt:20:1
 returns : tie.Need-returns
 returns c = search says-1
 
--- src/refusals.rt:20:1
 returns-2 : tie.Need-returns-2
 returns-2 c = search says-2
 
--- src/refusals.rt:20:1
 returns-3 : tie.Need-returns-3
 returns-3 c = search says-3
 
--- src/refusals.rt:20:1
 returns-4 : tie.Need-returns-4
 returns-4 c = search says-4
 
--- src/refusals.rt:20:1
 returns-5 : tie.Need-returns-5
 returns-5 c = search says-5
 
--- src/refusals.rt:20:1
 returns-6 : tie.Need-returns-6
 returns-6 c = search says-6
 
--- src/refusals.rt:20:1
 returns-7 : tie.Need-returns-7
 returns-7 c = search says-7
 
--- src/refusals.rt:20:1
 returns-8 : tie.Need-returns-8
 returns-8 c = search says-8
 

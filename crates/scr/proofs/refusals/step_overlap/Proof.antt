@@ -7,19 +7,15 @@ use Rattle.scr.proofs.refusals.step_overlap.Lts as lts
 use Rattle.word.proofs.given.Reads as given-reads
 use Rattle.word.proofs.variable.Reads as variable-reads
 
--- src/refusals.rt:75:19
 variable-requires : tie.Need-variable-requires
 variable-requires c κs = search needs
 
--- src/refusals.rt:75:19
 cast-t9 : tie.Need-cast-t9
 cast-t9 c = search needs
 
--- src/refusals.rt:76:16
 given-requires : tie.Need-given-requires
 given-requires c κs = search needs
 
--- src/refusals.rt:71:1
 returns : tie.Need-returns
 returns c = search overlap-says
 

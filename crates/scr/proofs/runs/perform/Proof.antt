@@ -7,59 +7,45 @@ use Rattle.scr.proofs.runs.perform.Lts as lts
 use Rattle.scr.proofs.refusals.stepped.Reads as stepped-reads
 use Rattle.simulator.proofs.run.run_events.Reads as run-events-reads
 
--- src/runs.rt:51:9
 sub-run-events : tie.Need-sub-run-events
 sub-run-events c = search needs
 
--- src/runs.rt:51:9
 part-before-start : tie.Need-part-before-start
 part-before-start c = search needs
 
--- src/runs.rt:51:9
 part-before-end : tie.Need-part-before-end
 part-before-end c = search needs
 
--- src/runs.rt:52:9
 sub-run-events-2 : tie.Need-sub-run-events-2
 sub-run-events-2 c = search needs
 
--- src/runs.rt:52:9
 part-after-start : tie.Need-part-after-start
 part-after-start c = search needs
 
--- src/runs.rt:52:9
 part-after-end : tie.Need-part-after-end
 part-after-end c = search needs
 
--- src/runs.rt:43:9
 run-events-requires : tie.Need-run-events-requires
 run-events-requires c κs = search needs
 
--- src/runs.rt:56:21
 enum-known-r : tie.Need-enum-known-r
 enum-known-r c = search needs
 
--- src/runs.rt:57:24
 enum-known-r-2 : tie.Need-enum-known-r-2
 enum-known-r-2 c = search needs
 
--- src/runs.rt:57:38
 stepped-requires : tie.Need-stepped-requires
 stepped-requires c κs = search needs
 
--- src/runs.rt:27:1
 same-length : tie.Need-same-length
 same-length c = search needs
 
--- src/runs.rt:27:1
 returns : tie.Need-returns
 returns c = (search performed-last, search needs)
 
--- src/runs.rt:27:1
 same-length-2 : tie.Need-same-length-2
 same-length-2 c = search needs
 
--- src/runs.rt:27:1
 returns-2 : tie.Need-returns-2
 returns-2 c = (search performed-refused, search needs)
 

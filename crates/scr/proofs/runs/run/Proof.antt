@@ -7,35 +7,27 @@ use Rattle.scr.proofs.runs.run.Lts as lts
 use Rattle.scr.proofs.runs.perform_from.Reads as perform-from-reads
 use Rattle.scr.proofs.runs.room_from.Reads as room-from-reads
 
--- src/runs.rt:110:46
 add-t14 : tie.Need-add-t14
 add-t14 c = search needs
 
--- src/runs.rt:110:9
 returns : tie.Need-returns
 returns c = (search many-answer, search many-kept)
 
--- src/runs.rt:112:9
 room-from-requires : tie.Need-room-from-requires
 room-from-requires c κs = search needs
 
--- src/runs.rt:114:9
 returns-2 : tie.Need-returns-2
 returns-2 c = (search short-answer, search short-kept)
 
--- src/runs.rt:117:9
 returns-3 : tie.Need-returns-3
 returns-3 c = (search state-answer, search state-kept)
 
--- src/runs.rt:119:5
 perform-from-requires : tie.Need-perform-from-requires
 perform-from-requires c κs = search needs
 
--- src/runs.rt:93:1
 same-length : tie.Need-same-length
 same-length c = search needs
 
--- src/runs.rt:93:1
 returns-4 : tie.Need-returns-4
 returns-4 c = (search run-answer, search run-written)
 

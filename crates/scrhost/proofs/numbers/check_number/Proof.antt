@@ -6,23 +6,18 @@ use Rattle.scrhost.proofs.numbers.check_number.Reads as reads
 use Rattle.scrhost.proofs.numbers.check_number.Lts as lts
 use Rattle.scr.proofs.refusal_number.Reads as refusal-number-reads
 
--- src/numbers.rt:17:29
 enum-told : tie.Need-enum-told
 enum-told c = search needs
 
--- src/numbers.rt:18:26
 enum-known-v : tie.Need-enum-known-v
 enum-known-v c = search needs
 
--- src/numbers.rt:18:32
 refusal-number-requires : tie.Need-refusal-number-requires
 refusal-number-requires c κs = search needs
 
--- src/numbers.rt:13:1
 returns : tie.Need-returns
 returns c = search check-passes
 
--- src/numbers.rt:13:1
 returns-2 : tie.Need-returns-2
 returns-2 c = search check-refuses
 

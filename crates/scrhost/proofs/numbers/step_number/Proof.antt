@@ -7,27 +7,21 @@ use Rattle.scrhost.proofs.numbers.step_number.Reads as reads
 use Rattle.scrhost.proofs.numbers.step_number.Lts as lts
 use Rattle.scr.proofs.refusal_number.Reads as refusal-number-reads
 
--- src/numbers.rt:27:23
 enum-known-a : tie.Need-enum-known-a
 enum-known-a c = search needs
 
--- src/numbers.rt:28:25
 enum-known-a-2 : tie.Need-enum-known-a-2
 enum-known-a-2 c = search needs
 
--- src/numbers.rt:28:41
 refusal-number-requires : tie.Need-refusal-number-requires
 refusal-number-requires c κs = search needs
 
--- src/numbers.rt:28:31
 add-result : tie.Need-add-result
 add-result c = omega (arith, number-few _ _ (c .refusal-number .ensures))
 
--- src/numbers.rt:23:1
 returns : tie.Need-returns
 returns c = search step-gives
 
--- src/numbers.rt:23:1
 returns-2 : tie.Need-returns-2
 returns-2 c = search step-refuses
 

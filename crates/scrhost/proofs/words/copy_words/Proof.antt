@@ -18,43 +18,33 @@ Inv-loop bytes words₀ n i₀ words i = (i ≤ n) × (length words ≡ length w
 abbrev μ-loop : tie.MeasureT-loop
 μ-loop bytes words₀ n i₀ words i = n - i
 
--- src/words.rt:30:5
 loop-holds : tie.Need-loop-holds Inv-loop μ-loop
 loop-holds c = (search needs, refl, rw sub-zero)
 
--- src/words.rt:31:41
 mul-word-of-bytes : tie.Need-mul-word-of-bytes Inv-loop μ-loop
 mul-word-of-bytes c = search needs
 
--- src/words.rt:31:20
 word-of-bytes-requires : tie.Need-word-of-bytes-requires Inv-loop μ-loop
 word-of-bytes-requires c κs = search needs
 
--- src/words.rt:31:9
 mul-words : tie.Need-mul-words Inv-loop μ-loop
 mul-words c = search needs
 
--- src/words.rt:31:9
 slice-write-words : tie.Need-slice-write-words Inv-loop μ-loop
 slice-write-words c = search needs
 
--- src/words.rt:30:9
 add-i : tie.Need-add-i Inv-loop μ-loop
 add-i c = search needs
 
--- src/words.rt:30:5
 loop-less : tie.Need-loop-less Inv-loop μ-loop
 loop-less c = search needs
 
--- src/words.rt:30:5
 loop-again : tie.Need-loop-again Inv-loop μ-loop
 loop-again c = (search needs, simp length-set (search needs), search copied)
 
--- src/words.rt:26:1
 same-length : tie.Need-same-length Inv-loop μ-loop
 same-length c = search needs
 
--- src/words.rt:26:1
 returns : tie.Need-returns Inv-loop μ-loop
 returns c = search copied-all
 

@@ -6,75 +6,57 @@ use Rattle.scrhost.proofs.words.word_of_bytes.Reads as reads
 use Rattle.scrhost.proofs.words.word_of_bytes.Lts as lts
 use Rattle.scrhost.proofs.words.wide.Reads as wide-reads
 
--- src/words.rt:19:10
 shared-slice-read-wide : tie.Need-shared-slice-read-wide
 shared-slice-read-wide c = search needs
 
--- src/words.rt:19:5
 wide-requires : tie.Need-wide-requires
 wide-requires c κs = search needs
 
--- src/words.rt:20:22
 add-wide : tie.Need-add-wide
 add-wide c = search needs
 
--- src/words.rt:20:16
 shared-slice-read-wide-2 : tie.Need-shared-slice-read-wide-2
 shared-slice-read-wide-2 c = search needs
 
--- src/words.rt:20:11
 wide-requires-2 : tie.Need-wide-requires-2
 wide-requires-2 c κs = search needs
 
--- src/words.rt:20:11
 mul-result : tie.Need-mul-result
 mul-result c = search needs
 
--- src/words.rt:19:5
 add-result : tie.Need-add-result
 add-result c = search needs
 
--- src/words.rt:21:22
 add-wide-2 : tie.Need-add-wide-2
 add-wide-2 c = search needs
 
--- src/words.rt:21:16
 shared-slice-read-wide-3 : tie.Need-shared-slice-read-wide-3
 shared-slice-read-wide-3 c = search needs
 
--- src/words.rt:21:11
 wide-requires-3 : tie.Need-wide-requires-3
 wide-requires-3 c κs = search needs
 
--- src/words.rt:21:11
 mul-result-2 : tie.Need-mul-result-2
 mul-result-2 c = search needs
 
--- src/words.rt:19:5
 add-result-2 : tie.Need-add-result-2
 add-result-2 c = search needs
 
--- src/words.rt:22:22
 add-wide-3 : tie.Need-add-wide-3
 add-wide-3 c = search needs
 
--- src/words.rt:22:16
 shared-slice-read-wide-4 : tie.Need-shared-slice-read-wide-4
 shared-slice-read-wide-4 c = search needs
 
--- src/words.rt:22:11
 wide-requires-4 : tie.Need-wide-requires-4
 wide-requires-4 c κs = search needs
 
--- src/words.rt:22:11
 mul-result-3 : tie.Need-mul-result-3
 mul-result-3 c = search needs
 
--- src/words.rt:19:5
 add-result-3 : tie.Need-add-result-3
 add-result-3 c = search needs
 
--- src/words.rt:15:1
 returns : tie.Need-returns
 unfolding wordOfBytes
 returns c = search needs

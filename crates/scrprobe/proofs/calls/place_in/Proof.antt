@@ -13,31 +13,24 @@ Inv-loop set part at₀ at-end at = at ≤ length set
 abbrev μ-loop : tie.MeasureT-loop
 μ-loop set part at₀ at-end at = length set - at
 
--- src/calls.rt:99:5
 loop-holds : tie.Need-loop-holds Inv-loop μ-loop
 loop-holds c = search needs
 
--- src/calls.rt:100:12
 stands-at-requires : tie.Need-stands-at-requires Inv-loop μ-loop
 stands-at-requires c κs = search needs
 
--- src/calls.rt:101:13
 returns : tie.Need-returns Inv-loop μ-loop
 returns c = search needs
 
--- src/calls.rt:99:9
 add-at : tie.Need-add-at Inv-loop μ-loop
 add-at c = search needs
 
--- src/calls.rt:99:5
 loop-less : tie.Need-loop-less Inv-loop μ-loop
 loop-less c = search needs
 
--- src/calls.rt:99:5
 loop-again : tie.Need-loop-again Inv-loop μ-loop
 loop-again c = search needs
 
--- src/calls.rt:98:1
 returns-2 : tie.Need-returns-2 Inv-loop μ-loop
 returns-2 c = search needs
 

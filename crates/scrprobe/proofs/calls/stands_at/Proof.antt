@@ -14,47 +14,36 @@ Inv-loop set part at there i₀ i-end i = i ≤ length part
 abbrev μ-loop : tie.MeasureT-loop
 μ-loop set part at there i₀ i-end i = length part - i
 
--- src/calls.rt:85:9
 words-from-requires : tie.Need-words-from-requires Inv-loop μ-loop
 words-from-requires c κs = search needs
 
--- src/calls.rt:87:9
 returns : tie.Need-returns Inv-loop μ-loop
 returns c = search needs
 
--- src/calls.rt:89:5
 loop-holds : tie.Need-loop-holds Inv-loop μ-loop
 loop-holds c = search needs
 
--- src/calls.rt:90:12
 word-at-requires : tie.Need-word-at-requires Inv-loop μ-loop
 word-at-requires c κs = search needs
 
--- src/calls.rt:90:33
 mul-if2 : tie.Need-mul-if2 Inv-loop μ-loop
 mul-if2 c = search needs
 
--- src/calls.rt:90:33
 shared-slice-read-if2 : tie.Need-shared-slice-read-if2 Inv-loop μ-loop
 shared-slice-read-if2 c = search needs
 
--- src/calls.rt:91:13
 returns-2 : tie.Need-returns-2 Inv-loop μ-loop
 returns-2 c = search needs
 
--- src/calls.rt:89:9
 add-i : tie.Need-add-i Inv-loop μ-loop
 add-i c = search needs
 
--- src/calls.rt:89:5
 loop-less : tie.Need-loop-less Inv-loop μ-loop
 loop-less c = search needs
 
--- src/calls.rt:89:5
 loop-again : tie.Need-loop-again Inv-loop μ-loop
 loop-again c = search needs
 
--- src/calls.rt:84:1
 returns-3 : tie.Need-returns-3 Inv-loop μ-loop
 returns-3 c = search needs
 

@@ -22,75 +22,57 @@ abbrev μ-loop : tie.MeasureT-loop
 μ-loop words places weights n order s events before₀ after₀ trace₀ last₀ i₀ i-end before after trace last i =
     length events - i
 
--- src/run.rt:37:5
 loop-holds : tie.Need-loop-holds Inv-loop μ-loop
 loop-holds c = (search needs, search needs, search needs, refl, refl, refl)
 
--- src/run.rt:38:17
 mul-w : tie.Need-mul-w Inv-loop μ-loop
 mul-w c = search needs
 
--- src/run.rt:38:17
 shared-slice-read-w : tie.Need-shared-slice-read-w Inv-loop μ-loop
 shared-slice-read-w c = search needs
 
--- src/run.rt:39:13
 step-from-requires : tie.Need-step-from-requires Inv-loop μ-loop
 step-from-requires c κs = search needs
 
--- src/run.rt:51:28
 enum-known-r : tie.Need-enum-known-r Inv-loop μ-loop
 enum-known-r c = search needs
 
--- src/run.rt:52:13
 same-length : tie.Need-same-length Inv-loop μ-loop
 same-length c = search needs
 
--- src/run.rt:52:13
 same-length-2 : tie.Need-same-length-2 Inv-loop μ-loop
 same-length-2 c = search needs
 
--- src/run.rt:52:13
 same-length-3 : tie.Need-same-length-3 Inv-loop μ-loop
 same-length-3 c = search needs
 
--- src/run.rt:52:13
 returns : tie.Need-returns Inv-loop μ-loop
 returns c = (search run-stop-answer, search run-stop-trace)
 
--- src/run.rt:54:9
 mul-trace : tie.Need-mul-trace Inv-loop μ-loop
 mul-trace c = search needs
 
--- src/run.rt:54:9
 slice-write-trace : tie.Need-slice-write-trace Inv-loop μ-loop
 slice-write-trace c = search needs
 
--- src/run.rt:37:9
 add-i : tie.Need-add-i Inv-loop μ-loop
 add-i c = search needs
 
--- src/run.rt:37:5
 loop-less : tie.Need-loop-less Inv-loop μ-loop
 loop-less c = search needs
 
--- src/run.rt:37:5
 loop-again : tie.Need-loop-again Inv-loop μ-loop
 loop-again c = (search needs, search needs, search needs, simp length-set (search needs), search run-on-answer, search run-on-trace)
 
--- src/run.rt:20:1
 same-length-4 : tie.Need-same-length-4 Inv-loop μ-loop
 same-length-4 c = search needs
 
--- src/run.rt:20:1
 same-length-5 : tie.Need-same-length-5 Inv-loop μ-loop
 same-length-5 c = search needs
 
--- src/run.rt:20:1
 same-length-6 : tie.Need-same-length-6 Inv-loop μ-loop
 same-length-6 c = search needs
 
--- src/run.rt:20:1
 returns-2 : tie.Need-returns-2 Inv-loop μ-loop
 returns-2 c = (search run-end-answer, search run-end-trace)
 
