@@ -40,22 +40,36 @@ def main(arguments):
     try:
         options, file, events = parsed(arguments)
         if "--help" in options:
-            print(__doc__)
+            put(sys.stdout, f"{__doc__}\n")
             return DONE
         source = from_data(data_of(file), "--binary" in options)
         if "--bytes" in options:
-            sys.stdout.buffer.write(source.set_bytes())
+            put(sys.stdout.buffer, source.set_bytes())
             return DONE
         add_events(source, events)
         lines = run(source.bytes())
     except BadInput as fault:
         print(f"scr: {fault}", file=sys.stderr)
         return NO_VERDICT
-    print("\n".join(lines))
+    put_lines(lines)
     verdict = numbers_of(lines)
     if "--quiet" not in options:
-        print("\n".join(wrapped(told(source, verdict))))
+        put_lines(wrapped(told(source, verdict)))
     return REFUSED if verdict[-1][0] == "REFUSE" else DONE
+
+
+def put(stream, data):
+    """Writes to standard output. A reader may stop early, as head does: that is no fault, and the exit status still tells the verdict."""
+    try:
+        stream.write(data)
+        stream.flush()
+    except BrokenPipeError:
+        # Python tries what it still holds once more at exit.
+        os.dup2(os.open(os.devnull, os.O_WRONLY), stream.fileno())
+
+
+def put_lines(lines):
+    put(sys.stdout, "".join(f"{line}\n" for line in lines))
 
 
 def parsed(arguments):

@@ -122,6 +122,21 @@ class Command(unittest.TestCase):
             self.assertEqual((done, parts(output)[0], errors), (status, verdict.split("\\n"), ""))
             self.assertNotIn("Traceback", output)
 
+    def test_a_reader_that_stops_early(self):
+        refused = os.path.join(ROOT, "examples", "set-a-two-rows.hex")
+        for arguments, status in {(SET_A,): 0, (refused,): 1, ("--quiet", refused): 1, ("--bytes", SET_A): 0, ("--help",): 0}.items():
+            reader, writer = os.pipe()
+            os.close(reader)
+            done = subprocess.run(
+                [os.path.join(ROOT, "scr"), *arguments],
+                stdout=writer,
+                stderr=subprocess.PIPE,
+                env={**os.environ, "SCRCHECK": f"{ORACLE} program"},
+                check=False,
+            )
+            os.close(writer)
+            self.assertEqual((done.returncode, done.stderr), (status, b""), arguments)
+
     def test_help(self):
         status, output, _ = scr("--help")
         self.assertEqual(status, 0)
