@@ -1,5 +1,5 @@
-"""docs/ARCHITECTURE.md has a line for every crate, in an order that fits crates.txt, and a line for every module; links of the documents lead
-somewhere.
+"""docs/ARCHITECTURE.md has a line for every crate, in an order that fits crates.txt, and a line for every module; README.md's picture has every
+crate; links of the documents lead somewhere.
 
 A module is a file of src/, specs/ or proofs/ of a crate, in subfolders too. The proofs of single functions (Proof.antt) and the roots
 (Lib.antt) have no line. A line stands in the section of its crate and names the module by its path there: `src/sweep.rt` or, without .antt,
@@ -32,8 +32,10 @@ def dependencies():
 
 
 def crates_told():
-    """The crates of the first table, from the top."""
-    return re.findall(r"^\| \[`(\w+)`\]", text_of(ARCHITECTURE), re.MULTILINE)
+    """The crates of each document, those first that depend on nothing: of a table from the top, of a picture from the bottom."""
+    picture = text_of("README.md").split("## What is here", 1)[1].split("\n\n")[2]
+    drawn = [name for line in picture.splitlines() for name in re.split(r"  +", line.strip())[:-1]]
+    return {ARCHITECTURE: re.findall(r"^\| \[`(\w+)`\]", text_of(ARCHITECTURE), re.MULTILINE), "README.md": drawn[::-1]}
 
 
 def modules():
@@ -77,15 +79,17 @@ class Architecture(unittest.TestCase):
         told = modules_told()
         self.none([f"{place}: {name} again" for at, (name, place) in enumerate(told) if name in dict(told[:at])])
 
-    def test_every_crate_has_a_line(self):
-        told, there = crates_told(), dependencies()
-        self.none([f"{ARCHITECTURE} has no line for crate {name}" for name in there if name not in told])
-        self.none([f"{ARCHITECTURE}: crate {name} is not in crates.txt" for name in told if name not in there])
+    def test_every_crate_is_told(self):
+        there = dependencies()
+        for document, told in crates_told().items():
+            self.none([f"{document} has nothing of crate {name}" for name in there if name not in told])
+            self.none([f"{document}: crate {name} is not in crates.txt" for name in told if name not in there])
 
-    def test_a_crate_depends_on_those_above_it(self):
-        told = crates_told()
-        below = [(name, needed) for at, name in enumerate(told) for needed in dependencies().get(name, []) if needed in told[at:]]
-        self.none([f"{ARCHITECTURE}: {name} depends on {needed}, which stands below it" for name, needed in below])
+    def test_crates_stand_in_their_order(self):
+        there = dependencies()
+        for document, told in crates_told().items():
+            after = [(name, needed) for at, name in enumerate(told) for needed in there.get(name, []) if needed in told[at:]]
+            self.none([f"{document}: {name} depends on {needed}, so they are in the wrong order" for name, needed in after])
 
 
 class Links(unittest.TestCase):
