@@ -8,8 +8,9 @@ use native.Mathlib.Omega.{arith}
 use native.Mathlib.Nat.{mod-eq-of-lt}
 use lib.Dec.{leb, ltb}
 use lib.Seq.{sets}
-use lib.ListN.{length, getD, take, drop}
+use lib.ListN.{length, getD, take, drop, length-take}
 use borrow.Author.Tests.{not-true, not-false}
+use Rattle.word.specs.Limits as Max
 use Rattle.meaning.specs.Answers.{Outcome, ok, refuse, _>>=_, demand}
 use Rattle.meaning.specs.Searches.{least}
 use Rattle.meaning.specs.Syntax.{TableSet}
@@ -197,6 +198,9 @@ module _ (ws ps us os : List ℕ) (o : O.Opened) (h : OpenedAs ws o ps us os) wh
   module _ (n a c : ℕ) (e : o ≡ OV.Set n a c) where
     part-of-order : take (n - 0) (drop 0 os) ≡ take n os
     part-of-order = let l : n - 0 ≡ n = omega arith in rw l
+
+    pub order-few : length (take (n - 0) (drop 0 os)) ≤ Max.max-variables
+    order-few = rw part-of-order (omega (arith, length-take n os, index-few n a c e))
 
     pub start-set : (t : ℕ) → t ≡ initialNumber ws ps us n % 4294967296 → answerSays (A.State t) ≡ startOf ws
     unfolding OpenedAs answerSays

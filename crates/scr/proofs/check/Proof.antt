@@ -1,4 +1,4 @@
-use Rattle.scr.proofs.Entering.{index-few, states-room, set-known, order-room, check-refused, check-set}
+use Rattle.scr.proofs.Entering.{index-few, states-room, set-known, order-room, order-few, check-refused, check-set}
 use Rattle.scr.proofs.Demanded.{check-demand, demand-2}
 use borrow.Author.Needs.{needs}
 use Rattle.scr.proofs.check.Statement.{statement}
@@ -42,7 +42,7 @@ part-verdict-end : tie.Need-part-verdict-end
 part-verdict-end c = search order-room
 
 verdict-requires : tie.Need-verdict-requires
-verdict-requires c κs = (search index-few, search states-room, search set-known)
+verdict-requires c κs = ((search needs, search needs, search order-few), (search index-few, search states-room, search set-known))
 
 returns : tie.Need-returns
 returns c = (search check-refused, (check-demand _ _ (search check-refused), demand-2 _ _ (search check-refused)))
