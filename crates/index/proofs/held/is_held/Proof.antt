@@ -1,11 +1,11 @@
-use Rattle.reader.proofs.Counts.{held-none, held-some}
+use Rattle.index.proofs.HeldLaws.{held-none, held-some}
 use borrow.Author.Needs.{needs}
-use Rattle.reader.proofs.is_held.Statement.{statement}
-use Rattle.reader.proofs.is_held.Tie as tie
-use Rattle.reader.proofs.is_held.Reads as reads
-use Rattle.reader.proofs.is_held.Lts as lts
+use Rattle.index.proofs.held.is_held.Statement.{statement}
+use Rattle.index.proofs.held.is_held.Tie as tie
+use Rattle.index.proofs.held.is_held.Reads as reads
+use Rattle.index.proofs.held.is_held.Lts as lts
 use Rattle.index.proofs.place_of.Reads as place-of-reads
 use Rattle.index.proofs.word_at.Reads as word-at-reads
 use Rattle.word.proofs.sort.Reads as sort-reads
 
 place-of-requires : tie.Need-place-of-requires

@@ -1,9 +1,9 @@
-use Rattle.order.proofs.Scans.{bit-is}
+use Rattle.index.proofs.BitLaws.{bit-is}
 use borrow.Author.Needs.{needs}
-use Rattle.order.proofs.bit.Statement.{statement}
-use Rattle.order.proofs.bit.Tie as tie
-use Rattle.order.proofs.bit.Reads as reads
-use Rattle.order.proofs.bit.Lts as lts
+use Rattle.index.proofs.bits.bit.Statement.{statement}
+use Rattle.index.proofs.bits.bit.Tie as tie
+use Rattle.index.proofs.bits.bit.Reads as reads
+use Rattle.index.proofs.bits.bit.Lts as lts
 
 cast-result : tie.Need-cast-result
 cast-result c = search needs

@@ -1,9 +1,9 @@
-use Rattle.order.proofs.Scans.{bit-none, bit-one}
+use Rattle.index.proofs.BitLaws.{bit-none, bit-one}
 use borrow.Author.Needs.{needs}
-use Rattle.order.proofs.one_bit.Statement.{statement}
-use Rattle.order.proofs.one_bit.Tie as tie
-use Rattle.order.proofs.one_bit.Reads as reads
-use Rattle.order.proofs.one_bit.Lts as lts
+use Rattle.index.proofs.bits.one_bit.Statement.{statement}
+use Rattle.index.proofs.bits.one_bit.Tie as tie
+use Rattle.index.proofs.bits.one_bit.Reads as reads
+use Rattle.index.proofs.bits.one_bit.Lts as lts
 
 returns : tie.Need-returns
 returns c = search bit-none
