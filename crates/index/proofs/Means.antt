@@ -12,7 +12,7 @@ use Rattle.meaning.specs.Syntax.{Variable, TableSet}
 use Rattle.meaning.specs.Lookup.{variableAt, Source, input, by-event, by-condition, count, sizeOf, source}
 use Rattle.meaning.specs.Reading.{word, variableOf}
 use Rattle.meaning.specs.States.{isHeld, radixBy, radix, weight, initialOf}
-use Rattle.index.specs.Places.{headOf, variablesTo}
+use Rattle.index.specs.Places.{headOf}
 use Rattle.index.specs.Held.{heldBy, heldAt, radixAt, weightAt}
 use Rattle.index.specs.Indexed.{Indexed}
 use Rattle.index.specs.Sources.{SourceAt, no-table, event-at, condition-at, source-at}
