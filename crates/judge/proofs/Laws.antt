@@ -9,6 +9,7 @@ use lib.ListN.{length, getD}
 use lib.Dec.{eqb, leb}
 use borrow.Author.Tests.{ne-eqb, le-leb, lt-leb, not-true, not-false}
 use Rattle.word.specs.Fields as W
+use Rattle.word.specs.Limits as Max
 use Rattle.meaning.specs.Answers.{if_then_else_}
 use Rattle.meaning.specs.Reading.{word, testBy, testOf}
 use Rattle.meaning.specs.Steps.{true-in, modeIs}
@@ -140,7 +141,7 @@ module _ (ws a b : List ℕ) (n at w k : ℕ) (nz : n ≡ 0 → ⊥) (h : at < l
 pub ruleset event-laws = (event-none, event-past, event-never, event-or, event-change)
 
 -- ---- rows
-pub mode-law : (m x : ℕ) → (eqb m 255 || eqb m x) ≡ modeIs m x
+pub mode-law : (m x : ℕ) → (eqb m Max.any || eqb m x) ≡ modeIs m x
 unfolding modeIs
 mode-law m x = refl
 
@@ -188,24 +189,24 @@ module _ (ws : List ℕ) (f : ℕ → Judged) (x : ℕ) where
   unfolding rowsAt
   rows-step l i p g e = rw e
 
-  module _ (i on : ℕ) (g all : Got) (inv : rowsAt ws f x (64 - i) i on g ≡ all) where
+  module _ (i on : ℕ) (g all : Got) (inv : rowsAt ws f x (Max.max-rows - i) i on g ≡ all) where
     pub rows-out : length ws ≤ on → g ≡ all
-    rows-out h = sym (rows-past (64 - i) i on g (le-leb (length ws) on h)) ∙ inv
+    rows-out h = sym (rows-past (Max.max-rows - i) i on g (le-leb (length ws) on h)) ∙ inv
 
-    pub rows-all : 64 ≤ i → g ≡ all
+    pub rows-all : Max.max-rows ≤ i → g ≡ all
     unfolding rowsAt
-    rows-all h = let z : 64 - i ≡ 0 = omega arith in rw z at inv
+    rows-all h = let z : Max.max-rows - i ≡ 0 = omega arith in rw z at inv
 
-    module _ (w : ℕ) (j : Judged) (r : Got) (q : Bool) (h : i < 64) (hl : on < length ws)
+    module _ (w : ℕ) (j : Judged) (r : Got) (q : Bool) (h : i < Max.max-rows) (hl : on < length ws)
         (ej : j ≡ f (on + 1)) (ew : w ≡ word ws on)
         (er : r ≡ addRow g (modeIs (W.mode w) x && j .value) i (W.value w)) (eq : q ≡ eqb (W.kind (word ws (j .next))) 3) where
-      turn : (if q then (λ _. rowsAt ws f x (64 - (i + 1)) (i + 1) (j .next) r) else (λ _. r)) ≡ all
+      turn : (if q then (λ _. rowsAt ws f x (Max.max-rows - (i + 1)) (i + 1) (j .next) r) else (λ _. r)) ≡ all
       turn =
           rw (eq, er, ew, ej, add-one on, add-one i)
-          (sym (rows-step (64 - suc i) i on g (lt-leb (length ws) on hl)) ∙ (rw (left 64 i h, add-one i) at inv))
+          (sym (rows-step (Max.max-rows - suc i) i on g (lt-leb (length ws) on hl)) ∙ (rw (left Max.max-rows i h, add-one i) at inv))
 
       pub rows-end : not q ≡ true → r ≡ all
       rows-end n = rw (not-true q n) at turn
 
-      pub rows-on : not q ≡ false → rowsAt ws f x (64 - (i + 1)) (i + 1) (j .next) r ≡ all
+      pub rows-on : not q ≡ false → rowsAt ws f x (Max.max-rows - (i + 1)) (i + 1) (j .next) r ≡ all
       rows-on e = rw (not-false q e) at turn

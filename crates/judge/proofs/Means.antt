@@ -9,6 +9,7 @@ use lib.ListN.{length, getD, length-append, List·getD-eq-default}
 use lib.Dec.{eqb, leb, ltb}
 use borrow.Author.Tests.{leb-true}
 use Rattle.word.specs.Fields as W
+use Rattle.word.specs.Limits as Max
 use Rattle.meaning.specs.Answers.{Parse, fine, stop, _>>>_, expect, if_then_else_}
 use Rattle.meaning.specs.Searches.{mem, within, Hits, no-hit, one-hit, two-hits, andHere, hits}
 use Rattle.meaning.specs.Syntax.{Condition, constant, negation, Event, never, one-of, Variable, Row}
@@ -316,17 +317,17 @@ module _ (ws : List ℕ) (vs : List Variable) {F : Type 0} (t : F → Bool) (for
       ∙ fold-all h rs
 
 pub condition-rows-means : (ws : List ℕ) (vs : List Variable) (b : List ℕ) (v m p : ℕ) (rs : List (Row Condition)) (j : ℕ)
-    → readRows ws vs (readCondition ws vs 16) v m 64 p ≡ fine (rs, j)
-    → conditionRowsAt ws b (getD b m 0) 64 0 p Nothing ≡ gotOf rs (hits (rowHolds (conditionRow b m) rs) (length rs))
+    → readRows ws vs (readCondition ws vs Max.max-depth) v m Max.max-rows p ≡ fine (rs, j)
+    → conditionRowsAt ws b (getD b m 0) Max.max-rows 0 p Nothing ≡ gotOf rs (hits (rowHolds (conditionRow b m) rs) (length rs))
 unfolding conditionRowsAt conditionRow
 condition-rows-means ws vs b v m p =
-    rows-means ws vs (true-in b) (readCondition ws vs 16) (judgeAt ws b 16) (agrees ws vs b 16)
-    (getD b m 0) (conditionRow b m) (λ r. refl) v m 64 p
+    rows-means ws vs (true-in b) (readCondition ws vs Max.max-depth) (judgeAt ws b Max.max-depth) (agrees ws vs b Max.max-depth)
+    (getD b m 0) (conditionRow b m) (λ r. refl) v m Max.max-rows p
 
 pub event-rows-means : (ws : List ℕ) (vs : List Variable) (a b : List ℕ) (v m p : ℕ) (rs : List (Row Event)) (j : ℕ)
-    → readRows ws vs (readEvent ws vs 16) v m 64 p ≡ fine (rs, j)
-    → eventRowsAt ws a b (getD a m 0) 64 0 p Nothing ≡ gotOf rs (hits (rowHolds (eventRow a b m) rs) (length rs))
+    → readRows ws vs (readEvent ws vs Max.max-depth) v m Max.max-rows p ≡ fine (rs, j)
+    → eventRowsAt ws a b (getD a m 0) Max.max-rows 0 p Nothing ≡ gotOf rs (hits (rowHolds (eventRow a b m) rs) (length rs))
 unfolding eventRowsAt eventRow
 event-rows-means ws vs a b v m p =
-    rows-means ws vs (happens a b) (readEvent ws vs 16) (judgeEventAt ws a b 16) (events-agree ws vs a b 16)
-    (getD a m 0) (eventRow a b m) (λ r. refl) v m 64 p
+    rows-means ws vs (happens a b) (readEvent ws vs Max.max-depth) (judgeEventAt ws a b Max.max-depth) (events-agree ws vs a b Max.max-depth)
+    (getD a m 0) (eventRow a b m) (λ r. refl) v m Max.max-rows p

@@ -2,8 +2,17 @@
 // A formula is judged from its first word on; where it ends is found on the way, so no tree is built and no place is kept.
 use index::value_of;
 use index::word_at;
+use word::AND;
+use word::BECOMES_TRUE;
+use word::CONSTANT;
+use word::EQUALS;
+use word::EVERY_MODE;
 use word::MAX_DEPTH;
 use word::MAX_ROWS;
+use word::NOT;
+use word::OR;
+use word::ROW;
+use word::TEST;
 use word::Value;
 use word::given;
 use word::kind;
@@ -41,14 +50,18 @@ fn holds(w: u32, values: &[Value]) -> bool
 {
     let x = value_of(values, variable(w) as usize);
     let k = given(w);
-    if relation(w) == 0 { x == k } else { x <= k }
+    if relation(w) == EQUALS {
+        x == k
+    } else {
+        x <= k
+    }
 }
 
 // "and" or "or", by the kind of the word.
 fn joined(k: u32, a: bool, b: bool) -> bool
     ensures { λ r. ⌜ r ≡ joinedBy k a b ⌝ }
 {
-    if k == 6 { a & b } else { a | b }
+    if k == AND { a & b } else { a | b }
 }
 
 // The condition at a place, at most `left` levels deep.
@@ -72,15 +85,15 @@ pub fn judge(words: &[u32], values: &[Value], at: usize, left: usize) -> Judged
     let d = left - 1;
     let k = kind(w);
     match k {
-        4 => Judged {
+        TEST => Judged {
             value: holds(w, values),
             next: on,
         },
-        9 => Judged {
+        CONSTANT => Judged {
             value: truth(w) == 1,
             next: on,
         },
-        5 => {
+        NOT => {
             let a = judge(words, values, on, d);
             Judged {
                 value: !a.value,
@@ -103,7 +116,7 @@ pub fn judge(words: &[u32], values: &[Value], at: usize, left: usize) -> Judged
 fn changed(s: u32, old: bool, new: bool, when: bool) -> bool
     ensures { λ r. ⌜ r ≡ changedBy s old new when ⌝ }
 {
-    if s == 1 {
+    if s == BECOMES_TRUE {
         (!old & new) & when
     } else {
         (old & !new) & when
@@ -157,11 +170,11 @@ pub fn judge_event(
     let d = left - 1;
     let k = kind(w);
     match k {
-        9 => Judged {
+        CONSTANT => Judged {
             value: false,
             next: on,
         },
-        7 => {
+        OR => {
             let a = judge_event(words, before, after, on, d);
             let b = judge_event(words, before, after, a.next, d);
             Judged {
@@ -174,11 +187,11 @@ pub fn judge_event(
 }
 
 // ---- rows
-// Does a row for mode m take part where the mode is x? 255 is every mode.
+// Does a row for mode m take part where the mode is x?
 fn mode_is(m: u32, x: u32) -> bool
     ensures { λ r. ⌜ r ≡ modeIs m x ⌝ }
 {
-    (m == 255) | (m == x)
+    (m == EVERY_MODE) | (m == x)
 }
 
 // The rows that hold so far, with row i, which gives k and holds if h.
@@ -207,7 +220,7 @@ fn with_row(got: Got, w: u32, x: u32, truth: bool, i: usize) -> Got
 fn is_row(words: &[u32], at: usize) -> bool
     ensures { λ r. ⌜ r ≡ eqb (W.kind (word (now (words .entry)) at)) 3 ⌝ }
 {
-    kind(word_at(words, at)) == 3
+    kind(word_at(words, at)) == ROW
 }
 
 // The rows of a condition table that hold at the values. The first row stands at `at`, `mode` is the value of the class read.

@@ -10,8 +10,9 @@ use lib.Dec.{eqb, lit<}
 use lib.Bits.{bitOr, or-shr, or-step, shifted-even}
 use lib.Pow.{pow-pos, pow-lt, pow-add, shl-shr}
 use borrow.Author.Tests.{eq-eqb, ne-eqb, lt-ltb, le-ltb}
+use Rattle.word.specs.Limits as Max
 use Rattle.meaning.specs.Searches.{mem}
-use Rattle.order.specs.Masks.{bitIn, oneBit}
+use Rattle.index.specs.Bits.{bitIn, oneBit}
 use Rattle.order.specs.Orders.{maskOf}
 
 pub or-none : (a : Bool) → a || false ≡ a
@@ -85,20 +86,20 @@ bit-power v b =
       | no n ↦ rw (ne-eqb b v n, pow-other v b n)
     ]
 
-pub bit-of : (v b : ℕ) → b < 32 → bitIn (oneBit v) b ≡ eqb b v
+pub bit-of : (v b : ℕ) → b < Max.max-variables → bitIn (oneBit v) b ≡ eqb b v
 unfolding oneBit
 bit-of v b h =
-    elim (decLt v 32) [
-      | yes l ↦ rw (lt-ltb v 32 l) (bit-power v b)
-      | no l ↦ rw (le-ltb v 32 (omega arith), bit-zero b, ne-eqb b v (λ e. let z : ⊥ = omega arith in z))
+    elim (decLt v Max.max-variables) [
+      | yes l ↦ rw (lt-ltb v Max.max-variables l) (bit-power v b)
+      | no l ↦ rw (le-ltb v Max.max-variables (omega arith), bit-zero b, ne-eqb b v (λ e. let z : ⊥ = omega arith in z))
     ]
 
 -- ---- a list of variables
-mask-has : (xs : List ℕ) (m b : ℕ) → b < 32 → bitIn (maskOf xs m) b ≡ bitIn m b || mem b xs
+mask-has : (xs : List ℕ) (m b : ℕ) → b < Max.max-variables → bitIn (maskOf xs m) b ≡ bitIn m b || mem b xs
 unfolding maskOf mem
 mask-has [] m b h = sym (or-none (bitIn m b))
 mask-has (x ∷ xs) m b h =
     rw (mask-has xs (bitOr m (oneBit x)) b h, bit-or m (oneBit x) b, bit-of x b h) (sym (or-assoc (bitIn m b) (eqb b x) (mem b xs)))
 
-pub mem-bit : (xs : List ℕ) (b : ℕ) → b < 32 → mem b xs ≡ bitIn (maskOf xs 0) b
+pub mem-bit : (xs : List ℕ) (b : ℕ) → b < Max.max-variables → mem b xs ≡ bitIn (maskOf xs 0) b
 mem-bit xs b h = rw (mask-has xs 0 b h, bit-zero b)

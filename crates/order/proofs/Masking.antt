@@ -21,13 +21,14 @@ use Rattle.index.specs.Indexed.{Indexed}
 use Rattle.index.specs.Sources.{SourceAt, no-table, event-at, condition-at, source-at}
 use Rattle.theory.specs.Tests.{true-not-false}
 use Rattle.order.specs.declared.Masked.{Masked}
-use Rattle.order.specs.Masks.{bitIn, oneBit, nothingAt, bothFrom, firstFrom, conditionMaskBy, conditionMask, eventMaskBy, eventMask, formulaMask, rowsMask, tableMask}
+use Rattle.index.specs.Bits.{bitIn, oneBit}
+use Rattle.order.specs.Masks.{nothingAt, bothFrom, firstFrom, conditionMaskBy, conditionMask, eventMaskBy, eventMask, formulaMask, rowsMask, tableMask}
 use Rattle.order.proofs.Scans.{rows-here}
 use Rattle.order.proofs.Bits.{or-none, or-assoc, eqb-swap, bit-zero, bit-or, bit-of}
 
 -- the same place after it, and a bit for each variable b that `sees` finds in it
 abbrev Agrees : {A : Type 0} → (ℕ → A → Bool) → Read A → Masked → Type 0
-Agrees sees (fine p) j = (j .next ≡ p .1) × ((b : ℕ) → b < 32 → sees b (p .0) ≡ bitIn (j .mask) b)
+Agrees sees (fine p) j = (j .next ≡ p .1) × ((b : ℕ) → b < Max.max-variables → sees b (p .0) ≡ bitIn (j .mask) b)
 Agrees sees (stop k i) j = Unit {0}
 
 -- one reading after another; of their masks m and n the whole has g m n
@@ -174,7 +175,7 @@ module _ (ws : List ℕ) (vs : List Variable) where
 
 -- ---- rows whose formulas are scanned as formulas of type t
 abbrev RowsAgree : {F : Type 0} → (ℕ → F → Bool) → ℕ → Read (List (Row F)) → ℕ → Type 0
-RowsAgree sees first (fine p) m = (b : ℕ) → b < 32 → bitIn first b || anyRow (sees b) (p .0) ≡ bitIn m b
+RowsAgree sees first (fine p) m = (b : ℕ) → b < Max.max-variables → bitIn first b || anyRow (sees b) (p .0) ≡ bitIn m b
 RowsAgree sees first (stop k i) m = Unit {0}
 
 module _ {F : Type 0} (sees : ℕ → F → Bool) (ws : List ℕ) (vs : List Variable) (formula : ℕ → Read F) (t v c : ℕ) (scanned : (i : ℕ) → Agrees sees (formula i) (formulaMask ws t i)) where
@@ -222,7 +223,7 @@ module _ {F : Type 0} (sees : ℕ → F → Bool) (ws : List ℕ) (vs : List Var
       go (fine r) e = absurd (row-over p r e)
   rows-agree (suc left) p first = start (leb (length ws) p) refl (λ q a. rows-agree left q a)
     where
-      more : (k : Bool) (r : Row F × ℕ) (n : ℕ) → ((b : ℕ) → b < 32 → seesRow b (r .0) ≡ bitIn n b) → (o : Read (List (Row F)))
+      more : (k : Bool) (r : Row F × ℕ) (n : ℕ) → ((b : ℕ) → b < Max.max-variables → seesRow b (r .0) ≡ bitIn n b) → (o : Read (List (Row F)))
           → RowsAgree sees (bitOr first n) o (rowsMask ws t left (r .1) (bitOr first n))
           → RowsAgree sees first
           (if k then (λ _. o >>> λ q. fine (r .0 ∷ q .0, q .1)) else (λ _. fine (r .0 ∷ [], r .1)))
@@ -249,13 +250,13 @@ module _ {F : Type 0} (sees : ℕ → F → Bool) (ws : List ℕ) (vs : List Var
       start false e ih = go (readRow ws vs formula v c (suc left) p) (row-agrees (suc left) p) e ih
 
   -- rows that were read, after x that the first mask has
-  rows-read : (left p first : ℕ) (rs : List (Row F)) (j : ℕ) → readRows ws vs formula v c left p ≡ fine (rs, j) → (b : ℕ) → b < 32
+  rows-read : (left p first : ℕ) (rs : List (Row F)) (j : ℕ) → readRows ws vs formula v c left p ≡ fine (rs, j) → (b : ℕ) → b < Max.max-variables
       → (x : Bool) → x ≡ bitIn first b → x || anyRow (sees b) rs ≡ bitIn (rowsMask ws t left p first) b
   rows-read left p first rs j e b h x ex =
       rw ex (subst (λ (o : Read (List (Row F))). RowsAgree sees first o (rowsMask ws t left p first)) e (rows-agree left p first) b h)
 
 -- ---- the source of a variable, by the place of its first row
-source-means : {ws : List ℕ} {vs : List Variable} {p : ℕ} {s : Source} → SourceAt ws vs p s → (b : ℕ) → b < 32
+source-means : {ws : List ℕ} {vs : List Variable} {p : ℕ} {s : Source} → SourceAt ws vs p s → (b : ℕ) → b < Max.max-variables
     → readsBy s b ≡ bitIn (tableMask ws p) b
 unfolding readsBy tableMask bodyOf formulaMask
 source-means no-table b h = sym (bit-zero b)
@@ -275,7 +276,7 @@ source-means {ws} {vs} (condition-at i j rs t e) b h =
     scanned : (k : ℕ) → Agrees tests (readCondition ws vs Max.max-depth k) (formulaMask ws 3 k)
     scanned k = condition-agrees ws vs Max.max-depth k
 
-pub reads-mean : {ws : List ℕ} {z : TableSet} {n a : ℕ} {ps : List ℕ} → Indexed ws z n a ps → (v b : ℕ) → b < 32
+pub reads-mean : {ws : List ℕ} {z : TableSet} {n a : ℕ} {ps : List ℕ} → Indexed ws z n a ps → (v b : ℕ) → v < n → b < Max.max-variables
     → reads z v b ≡ bitIn (tableMask ws (getD ps v 0)) b
 unfolding reads
-reads-mean ix v b h = source-means (source-at ix v) b h
+reads-mean ix v b l h = source-means (source-at ix v l) b h

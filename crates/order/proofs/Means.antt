@@ -15,12 +15,13 @@ use Rattle.meaning.specs.Syntax.{TableSet}
 use Rattle.meaning.specs.Lookup.{count}
 use Rattle.meaning.specs.Order.{reads, ready, taking, takeMore, order, stuck, move, shown, movesBack, cycleFrom, noCycle}
 use Rattle.index.specs.Indexed.{Indexed}
-use Rattle.index.proofs.Laws.{variables-length}
+use Rattle.index.proofs.Means.{count-is}
 use Rattle.theory.specs.Tests.{mem-split, mem-append, mem-left, mem-right, mem-cons}
 use Rattle.theory.specs.Found.{LeastView, absent, found, least-view}
 use Rattle.theory.specs.Numbers.{getD-listOf}
 use Rattle.theory.specs.Orders.{all-ordered}
-use Rattle.order.specs.Masks.{bitIn, tableMask, masksAt}
+use Rattle.index.specs.Bits.{bitIn}
+use Rattle.order.specs.Masks.{tableMask, masksAt}
 use Rattle.order.specs.Orders.{maskOf, covered, untakenBy, leastStuck, stuckRead, readyBy, leastReady, takeBy, orderBy, takenBy, moveBy, shownBy, homeBy, backBy, cycleOf, cycleBy, orderAt, noCycleAt}
 use Rattle.order.proofs.Bits.{mem-bit}
 use Rattle.order.proofs.Masking.{reads-mean}
@@ -53,7 +54,7 @@ module _ (f g : ℕ → ℕ) (n : ℕ) (same : (u : ℕ) → u < n → f u ≡ g
   walk-same (suc k) v h = same (iterate f k v) (walk-below k v h) ∙ ap g (walk-same k v h)
 
 -- ---- the masks say what each variable reads
-module _ (z : TableSet) (ms : List ℕ) (few : count z ≤ 32)
+module _ (z : TableSet) (ms : List ℕ) (few : count z ≤ Max.max-variables)
     (masked : (v b : ℕ) → v < count z → b < count z → reads z v b ≡ bitIn (getD ms v 0) b) where
   ready-same : (taken : List ℕ) (v : ℕ) → v < count z → ready z taken v ≡ readyBy ms (count z) (maskOf taken 0) v
   unfolding ready readyBy untakenBy covered
@@ -116,16 +117,16 @@ module _ (z : TableSet) (ms : List ℕ) (few : count z ≤ 32)
 -- ---- the index
 module _ {ws : List ℕ} {z : TableSet} {n a : ℕ} {ps : List ℕ} (ix : Indexed ws z n a ps) where
   counted : count z ≡ n
-  counted = rw (ix .variables-are) (variables-length ws n)
+  counted = count-is ix
 
-  few : count z ≤ 32
+  few : count z ≤ Max.max-variables
   few = rw counted (ix .few)
 
   masked : (v b : ℕ) → v < count z → b < count z → reads z v b ≡ bitIn (getD (masksAt ws ps) v 0) b
   unfolding masksAt
   masked v b h l =
       let f = few in
-      rw (getD-listOf (λ u. tableMask ws (getD ps u 0)) Max.max-variables 0 v (omega arith)) (reads-mean ix v b (omega arith))
+      rw (getD-listOf (λ u. tableMask ws (getD ps u 0)) Max.max-variables 0 v (omega arith)) (reads-mean ix v b (rw (← counted) h) (omega arith))
 
 pub order-means : {ws : List ℕ} {z : TableSet} {n a : ℕ} {ps : List ℕ} → Indexed ws z n a ps
     → (orderAt ws ps n ≡ order z) × (noCycleAt ws ps n ≡ noCycle z)

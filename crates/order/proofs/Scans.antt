@@ -1,37 +1,23 @@
 -- Laws of the scans for masks, one for each way out of a function.
-use Prim.Native.Nat.{ℕ, zero, suc, _+_, _-_, _*_, _/_, _%_, _^_, _≤_, _<_}
-use mathlib.Core.Path.{_≡_, refl, sym, ap, _∙_}
+use Prim.Native.Nat.{ℕ, zero, suc, _+_, _-_, _≤_, _<_}
+use mathlib.Core.Path.{_≡_, refl, sym, _∙_}
 use mathlib.Core.Bool.{true, false}
 use mathlib.Core.List.{List, [], _∷_}
 use native.Mathlib.Omega.{arith}
-use native.Mathlib.Nat.{one-mul}
 use native.Mathlib.Numerals.{sub-one, add-one}
-use lib.Dec.{eqb, leb, lit<}
-use lib.Bits.{bitAnd, bitOr, and-mask}
-use lib.Pow.{shl-exact}
+use lib.Dec.{eqb, leb}
+use lib.Bits.{bitOr}
 use lib.ListN.{length, getD, set, take}
 use lib.Seq.{take-all, take-suc-set}
-use borrow.Author.Tests.{ne-eqb, eq-eqb, le-leb, lt-leb, lt-ltb, le-ltb}
+use borrow.Author.Tests.{ne-eqb, eq-eqb, le-leb, lt-leb}
 use Rattle.word.specs.Fields as W
 use Rattle.word.specs.Limits as Max
 use Rattle.meaning.specs.Answers.{if_then_else_}
 use Rattle.meaning.specs.Searches.{listOf}
 use Rattle.meaning.specs.Reading.{word}
+use Rattle.index.specs.Bits.{oneBit}
 use Rattle.order.specs.declared.Masked.{Masked}
-use Rattle.order.specs.Masks.{bitIn, oneBit, nothingAt, conditionMaskBy, conditionMask, eventMaskBy, eventMask, formulaMask, rowsMask, tableMask, masksAt}
-
--- ---- bits
-pub bit-is : (m b : ℕ) → eqb (bitAnd (m / 2 ^ b) 1) 1 ≡ bitIn m b
-unfolding bitIn
-bit-is m b = ap (λ (x : ℕ). eqb x 1) (and-mask (m / 2 ^ b) 1)
-
-pub bit-none : (v : ℕ) → 32 ≤ v → 0 ≡ oneBit v
-unfolding oneBit
-bit-none v h = rw (le-ltb v 32 h)
-
-pub bit-one : (v : ℕ) → v < 32 → (1 * 2 ^ v) % 2 ^ 32 ≡ oneBit v
-unfolding oneBit
-bit-one v h = rw (lt-ltb v 32 h, shl-exact 1 v 32 (lit< tt) (omega arith), one-mul (2 ^ v))
+use Rattle.order.specs.Masks.{nothingAt, conditionMaskBy, conditionMask, eventMaskBy, eventMask, formulaMask, rowsMask, tableMask, masksAt}
 
 -- ---- conditions
 pub condition-none : (ws : List ℕ) (n at : ℕ) → n ≡ 0 → record { mask = 0; next = at } ≡ conditionMask ws n at
@@ -150,24 +136,24 @@ pub rows-here : (ws : List ℕ) (t l p m : ℕ) → leb (length ws) p ≡ false
 unfolding rowsMask
 rows-here ws t l p m e = rw e
 
-module _ (ws : List ℕ) (t i on m at first : ℕ) (inv : rowsMask ws t (64 - i) on m ≡ rowsMask ws t Max.max-rows at first) where
+module _ (ws : List ℕ) (t i on m at first : ℕ) (inv : rowsMask ws t (Max.max-rows - i) on m ≡ rowsMask ws t Max.max-rows at first) where
   pub rows-past : length ws ≤ on → m ≡ rowsMask ws t Max.max-rows at first
-  rows-past h = sym (rows-end ws t (64 - i) on m (le-leb (length ws) on h)) ∙ inv
+  rows-past h = sym (rows-end ws t (Max.max-rows - i) on m (le-leb (length ws) on h)) ∙ inv
 
-  pub rows-all : 64 ≤ i → m ≡ rowsMask ws t Max.max-rows at first
-  rows-all h = let z : 64 - i ≡ 0 = omega arith in sym (rows-zero ws t on m) ∙ (rw z at inv)
+  pub rows-all : Max.max-rows ≤ i → m ≡ rowsMask ws t Max.max-rows at first
+  rows-all h = let z : Max.max-rows - i ≡ 0 = omega arith in sym (rows-zero ws t on m) ∙ (rw z at inv)
 
-  module _ (w k : ℕ) (j : Masked) (h : i < 64) (hl : on < length ws) (ej : j ≡ formulaMask ws t (on + 1)) (ew : w ≡ word ws (j .next)) (ek : k ≡ W.kind w) where
-    turn : (if eqb k 3 then (λ _. rowsMask ws t (64 - (i + 1)) (j .next) (bitOr m (j .mask))) else (λ _. bitOr m (j .mask)))
+  module _ (w k : ℕ) (j : Masked) (h : i < Max.max-rows) (hl : on < length ws) (ej : j ≡ formulaMask ws t (on + 1)) (ew : w ≡ word ws (j .next)) (ek : k ≡ W.kind w) where
+    turn : (if eqb k 3 then (λ _. rowsMask ws t (Max.max-rows - (i + 1)) (j .next) (bitOr m (j .mask))) else (λ _. bitOr m (j .mask)))
         ≡ rowsMask ws t Max.max-rows at first
     turn =
         rw (ek, ew, ej, add-one on)
-        (sym (rows-here ws t (64 - (i + 1)) on m (lt-leb (length ws) on hl)) ∙ (rw (left 64 i h) at inv))
+        (sym (rows-here ws t (Max.max-rows - (i + 1)) on m (lt-leb (length ws) on hl)) ∙ (rw (left Max.max-rows i h) at inv))
 
     pub rows-last : (k ≡ 3 → ⊥) → bitOr m (j .mask) ≡ rowsMask ws t Max.max-rows at first
     rows-last n = rw (ne-eqb k 3 n) at turn
 
-    pub rows-on : k ≡ 3 → rowsMask ws t (64 - (i + 1)) (j .next) (bitOr m (j .mask)) ≡ rowsMask ws t Max.max-rows at first
+    pub rows-on : k ≡ 3 → rowsMask ws t (Max.max-rows - (i + 1)) (j .next) (bitOr m (j .mask)) ≡ rowsMask ws t Max.max-rows at first
     rows-on e = rw (eq-eqb k 3 e) at turn
 
 -- ---- a table
@@ -199,16 +185,16 @@ unfolding listOf
 masks-none ws ps [] = refl
 masks-none ws ps (m ∷ ms) = refl
 
-pub masks-on : (ws ps ms : List ℕ) (v m : ℕ) → length ms ≡ 32 → v < 32 → take v ms ≡ masksTo ws ps v
+pub masks-on : (ws ps ms : List ℕ) (v m : ℕ) → length ms ≡ Max.max-variables → v < Max.max-variables → take v ms ≡ masksTo ws ps v
     → m ≡ tableMask ws (getD ps v 0) → take (v + 1) (set ms v m) ≡ masksTo ws ps (v + 1)
 unfolding listOf
 masks-on ws ps ms v m l h i em =
     let b : v < length ms = omega arith in
     rw (add-one v, take-suc-set ms v m b, i, em)
 
-pub masks-all : (ws ps ms : List ℕ) (v : ℕ) → length ms ≡ 32 → v ≤ 32 → 32 ≤ v → take v ms ≡ masksTo ws ps v → ms ≡ masksAt ws ps
+pub masks-all : (ws ps ms : List ℕ) (v : ℕ) → length ms ≡ Max.max-variables → v ≤ Max.max-variables → Max.max-variables ≤ v → take v ms ≡ masksTo ws ps v → ms ≡ masksAt ws ps
 unfolding masksAt
 masks-all ws ps ms v l h k i =
-    let e : v ≡ 32 = omega arith in
-    let b : length ms ≤ 32 = omega arith in
-    sym (take-all 32 ms b) ∙ (rw e at i)
+    let e : v ≡ Max.max-variables = omega arith in
+    let b : length ms ≤ Max.max-variables = omega arith in
+    sym (take-all Max.max-variables ms b) ∙ (rw e at i)

@@ -13,13 +13,15 @@ use lib.Bits.{bitOr}
 use lib.ListN.{length, getD, set, take, length-take}
 use lib.Seq.{take-suc-set}
 use borrow.Author.Tests.{not-true, not-false, eq-eqb, ne-eqb}
+use Rattle.word.specs.Limits as Max
 use Rattle.meaning.specs.Searches.{orHere, least, orElse, all-below, iterate}
 use Rattle.meaning.specs.Order.{taking}
 use Rattle.order.specs.declared.Found.{Found}
 use Rattle.order.specs.declared.Found.the-variants.{At, Nothing}
 use Rattle.order.specs.declared.Order.{Order}
 use Rattle.order.specs.declared.Order.the-variants.{All, Cycle}
-use Rattle.order.specs.Masks.{bitIn, oneBit, masksAt}
+use Rattle.index.specs.Bits.{bitIn, oneBit}
+use Rattle.order.specs.Masks.{masksAt}
 use Rattle.order.specs.Orders.{foundOf, cycleSaid, maskOf, covered, untakenBy, leastStuck, stuckRead, readyBy, leastReady, takeBy, orderBy, takenBy, moveBy, shownBy, homeBy, backBy, cycleOf, cycleBy, orderAt, noCycleAt}
 use Rattle.order.proofs.Scans.{left}
 
@@ -155,7 +157,7 @@ module _ (ms : List ℕ) (n i t : ℕ) (xs : List ℕ) (et : t ≡ maskOf (take 
   unfolding takenBy
   mask-end e = et ∙ ap (λ (o : List ℕ). maskOf o 0) e
 
-  front : i ≤ n → n ≤ 32 → length xs ≡ 32 → take i xs ≡ orderBy ms n → take (length (orderBy ms n)) xs ≡ orderBy ms n
+  front : i ≤ n → n ≤ Max.max-variables → length xs ≡ Max.max-variables → take i xs ≡ orderBy ms n → take (length (orderBy ms n)) xs ≡ orderBy ms n
   front h k l e =
       let q : length (take i xs) ≡ i = length-take i xs ∙ omega arith in
       rw (← e, q)
@@ -175,23 +177,23 @@ module _ (ms : List ℕ) (n i t : ℕ) (xs : List ℕ) (et : t ≡ maskOf (take 
   pub mask-stop : (r : Found) → i < n → r ≡ foundOf (leastReady ms n t) → r ≡ Nothing → t ≡ takenBy ms n
   mask-stop r h er e = mask-end (stopped r h er e)
 
-  pub order-stop : (r : Found) → i < n → n ≤ 32 → length xs ≡ 32 → r ≡ foundOf (leastReady ms n t) → r ≡ Nothing
+  pub order-stop : (r : Found) → i < n → n ≤ Max.max-variables → length xs ≡ Max.max-variables → r ≡ foundOf (leastReady ms n t) → r ≡ Nothing
       → take (length (orderBy ms n)) xs ≡ orderBy ms n
   order-stop r h k l er e = front (omega arith) k l (stopped r h er e)
 
   pub mask-all : i ≤ n → n ≤ i → t ≡ takenBy ms n
   mask-all h k = mask-end (ended h k)
 
-  pub order-all : i ≤ n → n ≤ i → n ≤ 32 → length xs ≡ 32 → take (length (orderBy ms n)) xs ≡ orderBy ms n
+  pub order-all : i ≤ n → n ≤ i → n ≤ Max.max-variables → length xs ≡ Max.max-variables → take (length (orderBy ms n)) xs ≡ orderBy ms n
   order-all h k b l = front h b l (ended h k)
 
-  grown : (v : ℕ) → i < n → n ≤ 32 → length xs ≡ 32 → take (i + 1) (set xs i v) ≡ take i xs ++ (v ∷ [])
+  grown : (v : ℕ) → i < n → n ≤ Max.max-variables → length xs ≡ Max.max-variables → take (i + 1) (set xs i v) ≡ take i xs ++ (v ∷ [])
   grown v h k l = let b : i < length xs = omega arith in rw (add-one i) (take-suc-set xs i v b)
 
-  pub mask-on : (v m : ℕ) → i < n → n ≤ 32 → length xs ≡ 32 → m ≡ oneBit v → bitOr t m ≡ maskOf (take (i + 1) (set xs i v)) 0
+  pub mask-on : (v m : ℕ) → i < n → n ≤ Max.max-variables → length xs ≡ Max.max-variables → m ≡ oneBit v → bitOr t m ≡ maskOf (take (i + 1) (set xs i v)) 0
   mask-on v m h k l em = rw (grown v h k l, mask-grown (take i xs) v 0, em, et)
 
-  pub order-on : (r : Found) (v : ℕ) → i < n → n ≤ 32 → length xs ≡ 32 → r ≡ foundOf (leastReady ms n t) → r ≡ At v
+  pub order-on : (r : Found) (v : ℕ) → i < n → n ≤ Max.max-variables → length xs ≡ Max.max-variables → r ≡ foundOf (leastReady ms n t) → r ≡ At v
       → takeBy ms n (n - (i + 1)) (take (i + 1) (set xs i v)) ≡ orderBy ms n
   unfolding taking
   order-on r v h k l er e = rw (grown v h k l) (turn h (some v) (found-some _ v (sym er ∙ e)))
@@ -237,9 +239,9 @@ module _ (ms : List ℕ) (n t v : ℕ) where
   unfolding iterate
   moves-on i u r eu er = rw (er, eu, add-one i)
 
-  pub moves-all : (i u : ℕ) → i ≤ 32 → 32 ≤ i → u ≡ iterate (moveBy ms n t) i v → u ≡ shownBy ms n t v
+  pub moves-all : (i u : ℕ) → i ≤ Max.cycle-moves → Max.cycle-moves ≤ i → u ≡ iterate (moveBy ms n t) i v → u ≡ shownBy ms n t v
   unfolding shownBy
-  moves-all i u h k eu = let q : i ≡ 32 = omega arith in rw q at eu
+  moves-all i u h k eu = let q : i ≡ Max.cycle-moves = omega arith in rw q at eu
 
 -- ---- the moves back
 module _ (ms : List ℕ) (n t w k : ℕ) (i : least (homeBy ms n t w) k ≡ none) where

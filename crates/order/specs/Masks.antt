@@ -1,9 +1,8 @@
--- What each variable reads, as a mask of 32 bits, from words and places alone. Bit b of v's mask stands for "v reads b".
+-- What each variable reads, as a mask, from words and places alone. Bit b of v's mask stands for "v reads b".
 -- Nothing is assumed of the words: where no formula can be read, nothing is read.
-use Prim.Native.Nat.{ℕ, zero, suc, _/_, _%_, _^_}
-use mathlib.Core.Bool.{Bool}
+use Prim.Native.Nat.{ℕ, zero, suc}
 use mathlib.Core.List.{List}
-use lib.Dec.{eqb, leb, ltb}
+use lib.Dec.{eqb, leb}
 use lib.Bits.{bitOr}
 use lib.ListN.{getD, length}
 use Rattle.word.specs.Fields as W
@@ -11,13 +10,8 @@ use Rattle.word.specs.Limits as Max
 use Rattle.meaning.specs.Answers.{if_then_else_}
 use Rattle.meaning.specs.Searches.{listOf}
 use Rattle.meaning.specs.Reading.{word}
+use Rattle.index.specs.Bits.{oneBit}
 use Rattle.order.specs.declared.Masked.{Masked}
-
-unfoldable pub bitIn : ℕ → ℕ → Bool
-bitIn m b = eqb (m / 2 ^ b % 2) 1
-
-unfoldable pub oneBit : ℕ → ℕ
-oneBit v = if ltb v 32 then (λ _. 2 ^ v) else (λ _. 0)
 
 abbrev pub nothingAt : ℕ → Masked
 nothingAt i = record { mask = 0; next = i }

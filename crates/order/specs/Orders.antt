@@ -11,11 +11,12 @@ use Rattle.word.specs.Limits as Max
 use Rattle.meaning.specs.Answers.{Outcome, ok, refuse}
 use Rattle.meaning.specs.Searches.{least, orElse, all-below, iterate}
 use Rattle.meaning.specs.Order.{taking}
+use Rattle.index.specs.Bits.{bitIn, oneBit}
 use Rattle.order.specs.declared.Found.{Found}
 use Rattle.order.specs.declared.Found.the-variants.{At, Nothing}
 use Rattle.order.specs.declared.Order.{Order}
 use Rattle.order.specs.declared.Order.the-variants.{All, Cycle}
-use Rattle.order.specs.Masks.{bitIn, oneBit, masksAt}
+use Rattle.order.specs.Masks.{masksAt}
 
 unfoldable pub foundOf : Option ℕ → Found
 foundOf none = Nothing

@@ -1,9 +1,20 @@
-// Which variable reads which, as one mask of 32 bits for each variable; the dependency order; and the cycle shown where variables
+// Which variable reads which, as one mask for each variable, with a bit for each that it reads; the dependency order; and the cycle shown where variables
 // are stuck (document 01, "States and steps", and refusal 9). All of it from the words of a set that has been read and its places.
+use index::bits::bit;
+use index::bits::mask_of;
+use index::bits::one_bit;
 use index::place_of;
 use index::word_at;
+use word::CONDITION_TABLE;
+use word::CONSTANT;
+use word::CYCLE_MOVES;
 use word::MAX_DEPTH;
 use word::MAX_ROWS;
+use word::MAX_VARIABLES;
+use word::NOT;
+use word::OR;
+use word::ROW;
+use word::TEST;
 use word::class_read;
 use word::kind;
 use word::sort;
@@ -13,30 +24,14 @@ ghost use mathlib.Core.Bool.{not, _||_};
 ghost use Prim.Native.Nat.{_≤_, _<_};
 ghost use lib.ListN.{length, getD, take};
 ghost use Rattle.word.specs.Limits as Max;
-ghost use Rattle.order.specs.Masks.{bitIn, oneBit, conditionMask, eventMask, formulaMask, rowsMask, tableMask, masksAt};
+ghost use Rattle.index.specs.Bits.{bitIn};
+ghost use Rattle.order.specs.Masks.{conditionMask, eventMask, formulaMask, rowsMask, tableMask, masksAt};
 ghost use Rattle.order.specs.Orders.{covered, untakenBy, readyBy, leastReady, foundOf, orderBy, takenBy, leastStuck, stuckRead, moveBy, shownBy, backBy, cycleSaid, cycleBy, orderAt, noCycleAt};
 
 // What a formula reads, and the place after it.
 pub struct Masked {
     pub mask: u32,
     pub next: usize,
-}
-
-// The mask of variable v alone; none from 32 on, as for 255, the class of a table without one.
-pub fn one_bit(v: usize) -> u32
-    ensures { λ r. ⌜ r ≡ oneBit v ⌝ }
-{
-    if 32 <= v {
-        return 0;
-    }
-    1u32 << v
-}
-
-pub fn bit(m: u32, b: usize) -> bool
-    requires { ⌜ b < 32 ⌝ }
-    ensures { λ r. ⌜ r ≡ bitIn m b ⌝ }
-{
-    (m >> b) & 1 == 1
 }
 
 // ---- what a table reads
@@ -54,12 +49,12 @@ pub fn condition_mask(words: &[u32], at: usize, left: usize) -> Masked
     let on = at + 1;
     let d = left - 1;
     match kind(w) {
-        4 => Masked {
+        TEST => Masked {
             mask: one_bit(variable(w) as usize),
             next: on,
         },
-        9 => Masked { mask: 0, next: on },
-        5 => condition_mask(words, on, d),
+        CONSTANT => Masked { mask: 0, next: on },
+        NOT => condition_mask(words, on, d),
         _ => {
             let a = condition_mask(words, on, d);
             let b = condition_mask(words, a.next, d);
@@ -85,8 +80,8 @@ pub fn event_mask(words: &[u32], at: usize, left: usize) -> Masked
     let on = at + 1;
     let d = left - 1;
     match kind(w) {
-        9 => Masked { mask: 0, next: on },
-        7 => {
+        CONSTANT => Masked { mask: 0, next: on },
+        OR => {
             let a = event_mask(words, on, d);
             let b = event_mask(words, a.next, d);
             Masked {
@@ -109,7 +104,7 @@ pub fn event_mask(words: &[u32], at: usize, left: usize) -> Masked
 fn formula_mask(words: &[u32], t: u32, at: usize) -> Masked
     ensures { λ r. ⌜ r ≡ formulaMask (now (words .entry)) t at ⌝ }
 {
-    if t == 3 {
+    if t == CONDITION_TABLE {
         condition_mask(words, at, MAX_DEPTH)
     } else {
         event_mask(words, at, MAX_DEPTH)
@@ -130,7 +125,7 @@ fn rows_mask(words: &[u32], t: u32, at: usize, first: u32) -> u32
         mask = mask | j.mask;
         on = j.next;
         let w = word_at(words, on);
-        if kind(w) != 3 {
+        if kind(w) != ROW {
             return mask;
         }
     }
@@ -147,7 +142,7 @@ fn table_mask(words: &[u32], places: &[usize], v: usize) -> u32
     }
     let w = word_at(words, p - 1);
     let t = sort(w);
-    if t == 3 {
+    if t == CONDITION_TABLE {
         let c = class_read(w) as usize;
         rows_mask(words, t, p, one_bit(c))
     } else {
@@ -157,23 +152,17 @@ fn table_mask(words: &[u32], places: &[usize], v: usize) -> u32
 
 // The masks of all variables. Past the last variable there is no table and the mask is 0.
 pub fn fill_masks(words: &[u32], places: &[usize], masks: &mut [u32])
-    requires { ⌜ length (now masks) ≡ 32 ⌝ }
+    requires { ⌜ length (now masks) ≡ Max.max-variables ⌝ }
     ensures { λ r. ⌜ now (masks .exit) ≡ masksAt (now (words .entry)) (now (places .entry)) ⌝ }
 {
-    for v in 0..32usize {
+    for v in 0..MAX_VARIABLES {
         masks[v] = table_mask(words, places, v);
     }
 }
 
 // ---- the dependency order; `taken` is the mask of the variables taken so far
-pub fn mask_of(masks: &[u32], v: usize) -> u32
-    ensures { λ r. ⌜ r ≡ getD (now (masks .entry)) v 0 ⌝ }
-{
-    if v < masks.len() { masks[v] } else { 0 }
-}
-
 fn untaken(taken: u32, v: usize) -> bool
-    requires { ⌜ v < 32 ⌝ }
+    requires { ⌜ v < Max.max-variables ⌝ }
     ensures { λ r. ⌜ r ≡ untakenBy taken v ⌝ }
 {
     !bit(taken, v)
@@ -181,7 +170,7 @@ fn untaken(taken: u32, v: usize) -> bool
 
 // Is b read and not yet taken?
 fn missing(m: u32, taken: u32, b: usize) -> bool
-    requires { ⌜ b < 32 ⌝ }
+    requires { ⌜ b < Max.max-variables ⌝ }
     ensures { λ r. ⌜ r ≡ not (not (bitIn m b) || bitIn taken b) ⌝ }
 {
     let x = bit(m, b);
@@ -190,7 +179,7 @@ fn missing(m: u32, taken: u32, b: usize) -> bool
 }
 
 fn all_taken(m: u32, taken: u32, n: usize) -> bool
-    requires { ⌜ n ≤ 32 ⌝ }
+    requires { ⌜ n ≤ Max.max-variables ⌝ }
     ensures { λ r. ⌜ r ≡ covered m taken n ⌝ }
 {
     for b in 0..n {
@@ -203,7 +192,7 @@ fn all_taken(m: u32, taken: u32, n: usize) -> bool
 
 // Is v untaken, and all that it reads taken?
 fn ready(masks: &[u32], n: usize, taken: u32, v: usize) -> bool
-    requires { ⌜ (n ≤ 32) × (v < n) ⌝ }
+    requires { ⌜ (n ≤ Max.max-variables) × (v < n) ⌝ }
     ensures { λ r. ⌜ r ≡ readyBy (now (masks .entry)) n taken v ⌝ }
 {
     let x = untaken(taken, v);
@@ -219,7 +208,7 @@ enum Found {
 }
 
 fn next_ready(masks: &[u32], n: usize, taken: u32) -> Found
-    requires { ⌜ n ≤ 32 ⌝ }
+    requires { ⌜ n ≤ Max.max-variables ⌝ }
     ensures { λ r. ⌜ r ≡ foundOf (leastReady (now (masks .entry)) n taken) ⌝ }
 {
     for v in 0..n {
@@ -232,10 +221,10 @@ fn next_ready(masks: &[u32], n: usize, taken: u32) -> Found
 
 // Writes the order and gives the mask of the variables in it.
 fn take_ready(masks: &[u32], n: usize, order: &mut [usize]) -> u32
-    requires { ⌜ (n ≤ 32) × (length (now order) ≡ 32) ⌝ }
+    requires { ⌜ (n ≤ Max.max-variables) × (length (now order) ≡ Max.max-variables) ⌝ }
     ensures { λ r. ⌜ r ≡ takenBy (now (masks .entry)) n ⌝ }
     ensures { λ r. ⌜ take (length (orderBy (now (masks .entry)) n)) (now (order .exit)) ≡ orderBy (now (masks .entry)) n ⌝ }
-    ensures { λ r. ⌜ length (now (order .exit)) ≡ 32 ⌝ }
+    ensures { λ r. ⌜ length (now (order .exit)) ≡ Max.max-variables ⌝ }
 {
     let mut taken = 0u32;
     for i in 0..n {
@@ -253,7 +242,7 @@ fn take_ready(masks: &[u32], n: usize, order: &mut [usize]) -> u32
 
 // ---- the cycle shown; `taken` is the mask of all that is ever taken, so the others are stuck
 fn lowest_stuck(n: usize, taken: u32) -> Found
-    requires { ⌜ n ≤ 32 ⌝ }
+    requires { ⌜ n ≤ Max.max-variables ⌝ }
     ensures { λ r. ⌜ r ≡ foundOf (leastStuck taken n) ⌝ }
 {
     for v in 0..n {
@@ -266,7 +255,7 @@ fn lowest_stuck(n: usize, taken: u32) -> Found
 
 // Is b stuck and read?
 fn stuck_read(m: u32, taken: u32, b: usize) -> bool
-    requires { ⌜ b < 32 ⌝ }
+    requires { ⌜ b < Max.max-variables ⌝ }
     ensures { λ r. ⌜ r ≡ stuckRead m taken b ⌝ }
 {
     let x = untaken(taken, b);
@@ -276,7 +265,7 @@ fn stuck_read(m: u32, taken: u32, b: usize) -> bool
 
 // The lowest stuck variable that v reads; v where it reads none, which is never so of a stuck one.
 fn move_on(masks: &[u32], n: usize, taken: u32, v: usize) -> usize
-    requires { ⌜ n ≤ 32 ⌝ }
+    requires { ⌜ n ≤ Max.max-variables ⌝ }
     ensures { λ r. ⌜ r ≡ moveBy (now (masks .entry)) n taken v ⌝ }
 {
     let m = mask_of(masks, v);
@@ -288,13 +277,13 @@ fn move_on(masks: &[u32], n: usize, taken: u32, v: usize) -> usize
     v
 }
 
-// The variable shown. 32 moves from any stuck variable end on a cycle, for there are at most 32 variables.
+// The variable shown. So many moves from any stuck variable end on a cycle, for there are no more variables.
 fn shown_from(masks: &[u32], n: usize, taken: u32, v: usize) -> usize
-    requires { ⌜ n ≤ 32 ⌝ }
+    requires { ⌜ n ≤ Max.max-variables ⌝ }
     ensures { λ r. ⌜ r ≡ shownBy (now (masks .entry)) n taken v ⌝ }
 {
     let mut u = v;
-    for i in 0..32usize {
+    for i in 0..CYCLE_MOVES {
         u = move_on(masks, n, taken, u);
     }
     u
@@ -302,7 +291,7 @@ fn shown_from(masks: &[u32], n: usize, taken: u32, v: usize) -> usize
 
 // The least number of moves, at least 1, from w back to w. The variable shown is met again within n moves.
 fn moves_back(masks: &[u32], n: usize, taken: u32, w: usize) -> usize
-    requires { ⌜ n ≤ 32 ⌝ }
+    requires { ⌜ n ≤ Max.max-variables ⌝ }
     ensures { λ r. ⌜ r ≡ backBy (now (masks .entry)) n taken w ⌝ }
 {
     let mut u = w;
@@ -322,7 +311,7 @@ pub enum Order {
 }
 
 fn find_cycle(masks: &[u32], n: usize, taken: u32) -> Order
-    requires { ⌜ n ≤ 32 ⌝ }
+    requires { ⌜ n ≤ Max.max-variables ⌝ }
     ensures { λ r. ⌜ cycleSaid r ≡ cycleBy (now (masks .entry)) n taken ⌝ }
 {
     let f = lowest_stuck(n, taken);
@@ -338,12 +327,12 @@ fn find_cycle(masks: &[u32], n: usize, taken: u32) -> Order
 
 // Writes the dependency order to the front of `order`, as far as it goes. What stands after it has no meaning.
 pub fn order_tables(words: &[u32], places: &[usize], n: usize, order: &mut [usize]) -> Order
-    requires { ⌜ (n ≤ 32) × (length (now order) ≡ 32) ⌝ }
+    requires { ⌜ (n ≤ Max.max-variables) × (length (now order) ≡ Max.max-variables) ⌝ }
     ensures { λ r. ⌜ cycleSaid r ≡ noCycleAt (now (words .entry)) (now (places .entry)) n ⌝ }
     ensures { λ r. ⌜ take (length (orderAt (now (words .entry)) (now (places .entry)) n)) (now (order .exit)) ≡ orderAt (now (words .entry)) (now (places .entry)) n ⌝ }
-    ensures { λ r. ⌜ length (now (order .exit)) ≡ 32 ⌝ }
+    ensures { λ r. ⌜ length (now (order .exit)) ≡ Max.max-variables ⌝ }
 {
-    let mut masks = [0u32; 32];
+    let mut masks = [0u32; MAX_VARIABLES];
     fill_masks(words, places, &mut masks);
     let taken = take_ready(&masks, n, order);
     find_cycle(&masks, n, taken)

@@ -1,15 +1,14 @@
 -- Scans for the lowest place that passes a test, and what they say of a table's part.
-use mathlib.Core.Path.{_≡_, refl, sym, ap, _∙_, subst}
+use mathlib.Core.Path.{_≡_, refl, sym, _∙_, subst}
 use mathlib.Core.Bool.{Bool, true, false, _&&_, _||_}
 use mathlib.Core.Option.{Option, none, some}
-use mathlib.Core.List.{List, [], _∷_}
+use mathlib.Core.List.{List, []}
 use Prim.Native.Nat.{ℕ, zero, suc, _+_, _-_, _≤_, _<_}
 use native.Mathlib.Omega.{arith}
 use native.Mathlib.Numerals.{add-one}
 use lib.Dec.{eqb}
 use lib.ListN.{length, take, drop}
 use Rattle.word.specs.Fields as W
-use Rattle.meaning.specs.Answers.{Outcome, ok, refuse}
 use Rattle.meaning.specs.Searches.{least, orHere, orElse}
 use Rattle.meaning.specs.Reading.{word}
 use Rattle.meaning.specs.Calls.{isTableOf, endsTable, partLength, partFrom}

@@ -1,9 +1,11 @@
 // The part of the words that is a table: from its table word to before the next table or assertion, or to the end.
 use index::word_at;
+use word::ASSERTION;
+use word::TABLE;
 use word::defined;
 use word::kind;
 ghost use mathlib.Core.Path.{_≡_};
-ghost use Prim.Native.Nat.{ℕ, _+_, _<_, _≤_};
+ghost use Prim.Native.Nat.{_+_, _<_};
 ghost use lib.ListN.{length};
 ghost use Rattle.meaning.specs.Calls.{isTableOf, endsTable};
 ghost use Rattle.part.specs.Part.{startAt, endAt};
@@ -12,14 +14,14 @@ fn is_table(words: &[u32], variable: u32, i: usize) -> bool
     ensures { λ r. ⌜ r ≡ isTableOf (now (words .entry)) variable i ⌝ }
 {
     let w = word_at(words, i);
-    (kind(w) == 2) & (defined(w) == variable)
+    (kind(w) == TABLE) & (defined(w) == variable)
 }
 
 fn ends_table(words: &[u32], i: usize) -> bool
     ensures { λ r. ⌜ r ≡ endsTable (now (words .entry)) i ⌝ }
 {
     let k = kind(word_at(words, i));
-    (k == 2) | (k == 10)
+    (k == TABLE) | (k == ASSERTION)
 }
 
 // The place of the table word of a variable, or the number of words.

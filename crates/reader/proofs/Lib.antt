@@ -1,12 +1,12 @@
-mod Tests
+mod TestLaws
 mod Answers
 mod Faults
-mod Variables
-mod Formulas
-mod Rows
-mod Tables
-mod Assertions
+mod VariableLaws
+mod FormulaLaws
+mod RowLaws
+mod TableLaws
+mod AssertionLaws
 mod Places
 mod Whole
-mod Counts
+mod CountLaws
 pub mod Sets

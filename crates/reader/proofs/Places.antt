@@ -5,9 +5,9 @@ use mathlib.Core.Bool.{Bool, true, false, not, _&&_}
 use mathlib.Core.List.{List, [], _∷_, _++_}
 use Prim.Native.Nat.{ℕ, zero, suc, _≤_, _<_}
 use native.Mathlib.Omega.{arith}
-use native.Mathlib.Decide.{decLe, ℕ-discrete}
+use native.Mathlib.Decide.{ℕ-discrete}
 use lib.Dec.{eqb}
-use lib.ListN.{length, getD, set, length-set, getD-replicate, List·getD-eq-default}
+use lib.ListN.{length, getD, set, length-set}
 use lib.Seq.{getD-set-same, getD-set-other}
 use borrow.Author.Tests.{ne-eqb, eq-eqb, not-true}
 use Rattle.word.specs.Fields as W
@@ -17,15 +17,16 @@ use Rattle.meaning.specs.Syntax.{Event, Variable, Table, Body}
 use Rattle.meaning.specs.Lookup.{definedBy, tableOf, isSome, hasTable}
 use Rattle.meaning.specs.Reading.{Read, word, fits, tableOk, tableFits, bodyOf, eventTableBy, wordAt, readBody, readTable, readTables}
 use Rattle.index.specs.declared.Reached.the-variants.{Next, Refused}
-use Rattle.index.specs.Places.{told}
+use Rattle.index.specs.Places.{told, place-count}
 use Rattle.index.specs.Indexed.{Placed, absent, there}
 use Rattle.reader.specs.Tables.{isPlaced, readPlaces}
-use Rattle.reader.specs.Typed.{noPlaces}
-use Rattle.reader.proofs.Tables.{conditionRows, eventRows, conditionTable, eventTable, second-of, defined-below}
+use Rattle.reader.specs.Variables.{NoTables}
+use Rattle.reader.proofs.Faults.{word-then}
+use Rattle.reader.proofs.TableLaws.{conditionRows, eventRows, conditionTable, eventTable, second-of, defined-below}
 
 -- each variable's entry against its table
 abbrev pub Places : List ℕ → List Variable → List Table → List ℕ → Type 0
-Places ws vs ts ps = (v : ℕ) → Placed ws vs (getD ps v 0) (tableOf ts v)
+Places ws vs ts ps = (v : ℕ) → v < Max.max-variables → Placed ws vs (getD ps v 0) (tableOf ts v)
 
 -- ---- what a reading that is fine says of its parts
 fine-not-stop : {A : Type 0} {a : A} {k i : ℕ} → _≡_ {A = Parse A} (fine a) (stop k i) → ⊥
@@ -53,9 +54,10 @@ module _ (ws : List ℕ) (vs : List Variable) where
   placed-some absent = refl
   placed-some (there i j t e) = rw (ne-eqb (suc i) 0 (λ q. (let z : ⊥ = omega arith in z)))
 
-  pub places-have : (ts : List Table) (ps : List ℕ) → Places ws vs ts ps → (v : ℕ) → hasTable ts v ≡ isPlaced ps v
+  pub places-have : (ts : List Table) (ps : List ℕ) → Places ws vs ts ps → (v : ℕ) → v < Max.max-variables
+      → hasTable ts v ≡ isPlaced ps v
   unfolding hasTable isPlaced
-  places-have ts ps ix v = placed-some (ix v)
+  places-have ts ps ix v l = placed-some (ix v l)
 
 has-none : (o : Option Table) → isSome o ≡ false → o ≡ none
 unfolding isSome
@@ -128,12 +130,29 @@ module _ (ws : List ℕ) (vs : List Variable) where
         body-read = c .2;
       }
 
+  -- whether its variable is tabled already is asked only of a variable that is there
+  table-asks : (i : ℕ) (a b : Bool) → (W.defined (word ws i) < length vs → a ≡ b) → readTable ws vs i a ≡ readTable ws vs i b
+  unfolding readTable
+  table-asks i a b h =
+      word-then ws (2 ∷ []) i _ ∙ go (fits (2 ∷ []) (word ws i)) (tableOk vs (word ws i)) refl ∙ sym (word-then ws (2 ∷ []) i _)
+    where
+      asked : Bool → Bool → Bool → Read Table
+      asked f t taken =
+          expect f 2 i >>> λ _. expect t 3 i >>> λ _. expect (tableFits vs (word ws i) && not taken) 5 i >>> λ _.
+          readBody ws vs (word ws i) (suc i)
+
+      go : (f t : Bool) → tableOk vs (word ws i) ≡ t → asked f t a ≡ asked f t b
+      go false t e = refl
+      go true false e = refl
+      go true true e = rw (h (defined-below vs (word ws i) e))
+
   -- its place goes to the entry of its variable
-  grown : (ts : List Table) (ps : List ℕ) (i j : ℕ) (t : Table) → Places ws vs ts ps → W.defined (word ws i) < length ps
+  grown : (ts : List Table) (ps : List ℕ) (i j : ℕ) (t : Table) → Places ws vs ts ps → length ps ≡ place-count
+      → W.defined (word ws i) < Max.max-variables
       → TableRead i j (isPlaced ps (W.defined (word ws i))) t
       → Places ws vs (ts ++ (t ∷ [])) (set ps (W.defined (word ws i)) (suc i))
   unfolding hasTable
-  grown ts ps i j t ix l r u = go (ℕ-discrete u (W.defined (word ws i)))
+  grown ts ps i j t ix len l r u lu = go (ℕ-discrete u (W.defined (word ws i)))
     where
       is : definedBy t ≡ W.defined (word ws i)
       is = body-defines (word ws i) (suc i) j t (r .body-read)
@@ -141,12 +160,12 @@ module _ (ws : List ℕ) (vs : List Variable) where
       go : Dec (u ≡ W.defined (word ws i)) → Placed ws vs (getD (set ps (W.defined (word ws i)) (suc i)) u 0) (tableOf (ts ++ (t ∷ [])) u)
       go (yes e) =
           let n : tableOf ts (W.defined (word ws i)) ≡ none
-          = has-none (tableOf ts (W.defined (word ws i))) (places-have ws vs ts ps ix (W.defined (word ws i)) ∙ r .free) in
-          rw (e, getD-set-same ps (W.defined (word ws i)) (suc i) 0 l, new-table t (W.defined (word ws i)) ts (eq-eqb (definedBy t) (W.defined (word ws i)) is) n)
+          = has-none (tableOf ts (W.defined (word ws i))) (places-have ws vs ts ps ix (W.defined (word ws i)) l ∙ r .free) in
+          rw (e, getD-set-same ps (W.defined (word ws i)) (suc i) 0 (rw len (omega arith)), new-table t (W.defined (word ws i)) ts (eq-eqb (definedBy t) (W.defined (word ws i)) is) n)
           (there i j t (r .body-read))
       go (no e) =
           rw (getD-set-other ps (W.defined (word ws i)) u (suc i) 0 e, other-table t u ts (ne-eqb (definedBy t) u (λ q. e (sym q ∙ is))))
-          (ix u)
+          (ix u lu)
 
 -- ---- the two readings of tables agree
 abbrev Agree : (ws : List ℕ) (vs : List Variable) → Read (List Table) → Read (List ℕ) → Type 0
@@ -156,11 +175,11 @@ Agree ws vs (fine a) (stop l j) = ⊥
 Agree ws vs (stop k i) (fine b) = ⊥
 
 module _ (ws : List ℕ) (vs : List Variable) (few : length vs ≤ Max.max-variables) where
-  agree : (l i : ℕ) (ts : List Table) (ps : List ℕ) → length ps ≡ Max.max-variables → Places ws vs ts ps
+  agree : (l i : ℕ) (ts : List Table) (ps : List ℕ) → length ps ≡ place-count → Places ws vs ts ps
       → Agree ws vs (readTables ws vs l i ts) (readPlaces ws vs l i ps)
   unfolding readTables readPlaces
   agree zero i ts ps len ix =
-      rw (places-have ws vs ts ps ix (W.defined (word ws i)))
+      rw (table-asks ws vs i (hasTable ts (W.defined (word ws i))) (isPlaced ps (W.defined (word ws i))) (λ l. places-have ws vs ts ps ix (W.defined (word ws i)) (omega arith)))
       (go (eqb (W.kind (word ws i)) 2) (readTable ws vs i (isPlaced ps (W.defined (word ws i)))))
     where
       go : (b : Bool) (m : Read Table)
@@ -169,11 +188,11 @@ module _ (ws : List ℕ) (vs : List Variable) (few : length vs ≤ Max.max-varia
       go true (stop k x) = (refl, refl)
       go false m = (refl, ix)
   agree (suc l) i ts ps len ix =
-      rw (places-have ws vs ts ps ix (W.defined (word ws i)))
+      rw (table-asks ws vs i (hasTable ts (W.defined (word ws i))) (isPlaced ps (W.defined (word ws i))) (λ l. places-have ws vs ts ps ix (W.defined (word ws i)) (omega arith)))
       (go (eqb (W.kind (word ws i)) 2) (readTable ws vs i (isPlaced ps (W.defined (word ws i)))) refl
       (λ t j e. let r = table-read ws vs i j (isPlaced ps (W.defined (word ws i))) t e in
       agree l j (ts ++ (t ∷ [])) (set ps (W.defined (word ws i)) (suc i)) (length-set ps (W.defined (word ws i)) (suc i) ∙ len)
-      (grown ws vs ts ps i j t ix (omega (arith, r .below)) r)))
+      (grown ws vs ts ps i j t ix len (omega (arith, r .below)) r)))
     where
       go : (b : Bool) (m : Read Table) → readTable ws vs i (isPlaced ps (W.defined (word ws i))) ≡ m
           → ((t : Table) (j : ℕ) → readTable ws vs i (isPlaced ps (W.defined (word ws i))) ≡ fine (t, j)
@@ -184,36 +203,30 @@ module _ (ws : List ℕ) (vs : List Variable) (few : length vs ≤ Max.max-varia
       go true (stop k x) e ih = (refl, refl)
       go false m e ih = (refl, ix)
 
-  all-zero : (v : ℕ) → _≡_ {A = ℕ} (getD noPlaces v 0) 0
-  all-zero v = go (decLe (suc v) 32)
-    where
-      go : Dec (v < 32) → _≡_ {A = ℕ} (getD noPlaces v 0) 0
-      go (yes l) = let z : ℕ = 0 in getD-replicate 32 v z z l
-      go (no l) = List·getD-eq-default noPlaces 0 (let h : 32 ≤ v = omega arith in h)
+  module _ (p₀ : List ℕ) (len : length p₀ ≡ place-count) (none-yet : NoTables p₀) where
+    at-first : Places ws vs [] p₀
+    unfolding tableOf NoTables
+    at-first v l = rw (none-yet v l) absent
 
-  at-first : Places ws vs [] noPlaces
-  unfolding tableOf
-  at-first v = rw (all-zero v) absent
+    agreed : (n i : ℕ) → Agree ws vs (readTables ws vs n i []) (readPlaces ws vs n i p₀)
+    agreed n i = agree n i [] p₀ len at-first
 
-  agreed : (n i : ℕ) → Agree ws vs (readTables ws vs n i []) (readPlaces ws vs n i noPlaces)
-  agreed n i = agree n i [] noPlaces refl at-first
+    -- what the answer of read_tables and what it wrote say of the meaning
+    pub tables-stopped : (n i k x : ℕ) (ps : List ℕ) → told (Refused k x) ps ≡ readPlaces ws vs n i p₀
+        → readTables ws vs n i [] ≡ stop k x
+    unfolding told
+    tables-stopped n i k x ps e = go (readTables ws vs n i []) (rw (← e) at (agreed n i))
+      where
+        go : (m : Read (List Table)) → Agree ws vs m (stop k x) → m ≡ stop k x
+        go (stop l y) (p, q) = rw (p, q)
+        go (fine a) h = absurd h
 
-  -- what the answer of read_tables and what it wrote say of the meaning
-  pub tables-stopped : (n i k x : ℕ) (ps : List ℕ) → told (Refused k x) ps ≡ readPlaces ws vs n i noPlaces
-      → readTables ws vs n i [] ≡ stop k x
-  unfolding told
-  tables-stopped n i k x ps e = go (readTables ws vs n i []) (rw (← e) at (agreed n i))
-    where
-      go : (m : Read (List Table)) → Agree ws vs m (stop k x) → m ≡ stop k x
-      go (stop l y) (p, q) = rw (p, q)
-      go (fine a) h = absurd h
-
-  pub tables-read : (n i j : ℕ) (ps : List ℕ) → told (Next j) ps ≡ readPlaces ws vs n i noPlaces
-      → (ts : List Table) × (readTables ws vs n i [] ≡ fine (ts, j)) × Places ws vs ts ps
-  unfolding told
-  tables-read n i j ps e = go (readTables ws vs n i []) (rw (← e) at (agreed n i))
-    where
-      go : (m : Read (List Table)) → Agree ws vs m (fine (ps, j))
-          → (ts : List Table) × (m ≡ fine (ts, j)) × Places ws vs ts ps
-      go (stop l y) h = absurd h
-      go (fine a) (p, q) = (a .0, ap (λ (y : ℕ). fine (a .0, y)) p, q)
+    pub tables-read : (n i j : ℕ) (ps : List ℕ) → told (Next j) ps ≡ readPlaces ws vs n i p₀
+        → (ts : List Table) × (readTables ws vs n i [] ≡ fine (ts, j)) × Places ws vs ts ps
+    unfolding told
+    tables-read n i j ps e = go (readTables ws vs n i []) (rw (← e) at (agreed n i))
+      where
+        go : (m : Read (List Table)) → Agree ws vs m (fine (ps, j))
+            → (ts : List Table) × (m ≡ fine (ts, j)) × Places ws vs ts ps
+        go (stop l y) h = absurd h
+        go (fine a) (p, q) = (a .0, ap (λ (y : ℕ). fine (a .0, y)) p, q)

@@ -1,108 +1,57 @@
 -- What the index says of refusals 6 to 8 of the set that was read, and the laws of read_typed.
-use mathlib.Core.Path.{_≡_, refl, sym, ap, _∙_}
+use mathlib.Core.Path.{_≡_, refl, ap, _∙_}
 use mathlib.Core.Bool.{_||_}
 use mathlib.Core.List.{List, [], _∷_}
 use Prim.Native.Nat.{ℕ, zero, suc, _≤_, _<_}
 use native.Mathlib.Omega.{arith}
-use native.Mathlib.Numerals.{sub-one}
 use lib.Dec.{eqb}
 use lib.ListN.{length}
-use borrow.Author.Tests.{ne-eqb, eq-eqb}
-use Rattle.word.specs.Fields as W
 use Rattle.word.specs.Limits as Max
-use Rattle.meaning.specs.Answers.{Outcome, ok, refuse, _>>=_, demand, if_then_else_}
-use Rattle.meaning.specs.Searches.{every, product-below}
-use Rattle.meaning.specs.Syntax.{Variable, TableSet}
-use Rattle.meaning.specs.Lookup.{variableAt, Source, input, by-event, by-condition, count, sizeOf, isMonitored, source}
-use Rattle.meaning.specs.Reading.{word, variableOf}
-use Rattle.meaning.specs.States.{isHeld, radixBy, radix, weight, stateCount, initialOf, tabled, startsAtZero, fewStates, readTyped}
+use Rattle.meaning.specs.Answers.{Outcome, ok, refuse, _>>=_, demand}
+use Rattle.meaning.specs.Searches.{every}
+use Rattle.meaning.specs.Syntax.{TableSet}
+use Rattle.meaning.specs.Lookup.{count, isMonitored, source}
+use Rattle.meaning.specs.Reading.{variableOf}
+use Rattle.meaning.specs.States.{isHeld, stateCount, tabled, startsAtZero, fewStates, readTyped}
 use Rattle.index.specs.Places.{variablesTo}
 use Rattle.index.specs.Indexed.{Indexed}
-use Rattle.index.specs.Sources.{SourceAt, no-table, event-at, condition-at, source-at}
-use Rattle.index.proofs.Laws.{variables-length, variable-at}
+use Rattle.index.proofs.Means.{count-is, variable-is, initial-is, held-is, weight-is}
 use Rattle.reader.specs.declared.Words.{Words}
 use Rattle.reader.specs.declared.Words.the-variants as D
-use Rattle.reader.specs.declared.Counted.{Counted}
-use Rattle.reader.specs.declared.Counted.the-variants as C
+use Rattle.reader.specs.declared.counts.Counted.{Counted}
+use Rattle.reader.specs.declared.counts.Counted.the-variants as C
 use Rattle.reader.specs.declared.Typed.the-variants as T
-use Rattle.reader.specs.Counts.{heldBy, heldAt, radixAt, weightAt, tabledAt, startsAtZeroAt, fewStatesAt, typedAt, WeightsTo, CountedAs}
+use Rattle.reader.specs.Counts.{tabledAt, startsAtZeroAt, fewStatesAt, typedAt, WeightsTo, CountedAs}
 use Rattle.reader.specs.Typed.{noPlaces, noWeights, ReadAs, TypedSet, TypedAs}
 use Rattle.reader.proofs.Places.{places-have}
 
--- ---- by the source
-source-held : {ws : List ℕ} {vs : List Variable} {p : ℕ} {s : Source} → SourceAt ws vs p s → heldBy ws p ≡ isHeld s
-unfolding heldBy isHeld
-source-held no-table = refl
-source-held {ws} (event-at i j rs n e) =
-    rw (ne-eqb (suc i) 0 (λ q. (let z : ⊥ = omega arith in z)), sub-one (suc i), ne-eqb (W.sort (word ws i)) 3 n)
-source-held {ws} (condition-at i j rs t e) =
-    rw (ne-eqb (suc i) 0 (λ q. (let z : ⊥ = omega arith in z)), sub-one (suc i), eq-eqb (W.sort (word ws i)) 3 t)
-
-held-radix : (s : Source) (n : ℕ) → (if isHeld s then (λ _. n) else (λ _. 1)) ≡ radixBy s n
-unfolding isHeld radixBy
-held-radix input n = refl
-held-radix (by-event t) n = refl
-held-radix (by-condition t) n = refl
-
--- ---- searches and products go by what they are given
+-- ---- a search goes by what it is given
 every-same : (f g : ℕ → Outcome (Unit {0})) (n : ℕ) → ((k : ℕ) → k < n → f k ≡ g k) → every f n ≡ every g n
 unfolding every
 every-same f g zero h = refl
 every-same f g (suc n) h = rw (every-same f g n (λ k l. h k (omega arith)), h n (omega arith))
 
-product-same : (f g : ℕ → ℕ) (n : ℕ) → ((k : ℕ) → k < n → f k ≡ g k) → product-below f n ≡ product-below g n
-unfolding product-below
-product-same f g zero h = refl
-product-same f g (suc n) h = rw (product-same f g n (λ k l. h k (omega arith)), h n (omega arith))
-
 -- ---- by the index
 module _ {ws : List ℕ} {z : TableSet} {n a : ℕ} {ps : List ℕ} (ix : Indexed ws z n a ps) where
-  pub count-is : count z ≡ n
-  count-is = rw (ix .variables-are) (variables-length ws n)
-
-  variable-is : (v : ℕ) → v < n → variableAt (z .variables) v ≡ variableOf (word ws v)
-  variable-is v l = rw (ix .variables-are) (variable-at ws n v l)
-
-  pub held-is : (v : ℕ) → heldAt ws ps v ≡ isHeld (source z v)
-  unfolding heldAt
-  held-is v = source-held (source-at ix v)
-
-  size-is : (v : ℕ) → v < n → W.size (word ws v) ≡ sizeOf z v
-  unfolding sizeOf variableOf
-  size-is v l = sym (ap (λ (x : Variable). x .size) (variable-is v l))
-
-  initial-is : (v : ℕ) → v < n → W.initial (word ws v) ≡ initialOf z v
-  unfolding initialOf variableOf
-  initial-is v l = sym (ap (λ (x : Variable). x .initial) (variable-is v l))
-
-  pub radix-is : (v : ℕ) → v < n → radixAt ws ps v ≡ radix z v
-  unfolding radixAt radix
-  radix-is v l =
-      rw (held-is v) (held-radix (source z v) (W.size (word ws v)) ∙ ap (λ (k : ℕ). radixBy (source z v) k) (size-is v l))
-
-  pub weight-is : (v : ℕ) → v ≤ n → weightAt ws ps v ≡ weight z v
-  unfolding weightAt weight
-  weight-is v l = product-same (radixAt ws ps) (radix z) v (λ k h. radix-is k (omega arith))
-
   tabled-is : (v : ℕ) → v < n → tabledAt ws ps v ≡ tabled z v
   unfolding tabledAt tabled isMonitored variableOf
-  tabled-is v l = rw (variable-is v l, places-have ws (variablesTo ws n) (z .tables) ps (ix .tables-are) v)
+  tabled-is v l = rw (variable-is ix v l, places-have ws (variablesTo ws ps n) (z .tables) ps (ix .tables-are) v (omega (arith, ix .few)))
 
   starts-is : (v : ℕ) → v < n → startsAtZeroAt ws ps v ≡ startsAtZero z v
   unfolding startsAtZeroAt startsAtZero
   starts-is v l =
-      rw (held-is v) (ap (λ (k : ℕ). demand (isHeld (source z v) || eqb k 0) 7 (v ∷ [])) (initial-is v l))
+      rw (held-is ix v l) (ap (λ (k : ℕ). demand (isHeld (source z v) || eqb k 0) 7 (v ∷ [])) (initial-is ix v l))
 
   few-is : (v : ℕ) → v < n → fewStatesAt ws ps v ≡ fewStates z v
   unfolding fewStatesAt fewStates
-  few-is v l = rw (weight-is (suc v) l)
+  few-is v l = rw (weight-is ix (suc v) l)
 
   typed-is : readTyped ws ≡ (typedAt ws ps n >>= λ _. ok z)
   unfolding readTyped typedAt
   typed-is =
       rw (
         ix .words-read,
-        count-is,
+        count-is ix,
         every-same (tabledAt ws ps) (tabled z) n tabled-is,
         every-same (startsAtZeroAt ws ps) (startsAtZero z) n starts-is,
         every-same (fewStatesAt ws ps) (fewStates z) n few-is,

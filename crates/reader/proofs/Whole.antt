@@ -7,23 +7,21 @@ use native.Mathlib.Omega.{arith}
 use lib.ListN.{length}
 use borrow.Author.Tests.{le-leb, lt-leb}
 use Rattle.word.specs.Limits as Max
-use Rattle.meaning.specs.Answers.{ok, fine, parsed}
+use Rattle.meaning.specs.Answers.{ok, fine, stop, parsed}
 use Rattle.meaning.specs.Searches.{within}
 use Rattle.meaning.specs.Syntax.{Condition, Table}
-use Rattle.meaning.specs.Reading.{readVariables, readTables, readAssertions, readWords}
+use Rattle.meaning.specs.Reading.{readTables, readAssertions, readWords}
 use Rattle.index.specs.declared.Reached.{Reached}
 use Rattle.index.specs.declared.Reached.the-variants.{Next, Refused}
 use Rattle.index.specs.Places.{reach, told, variablesTo}
 use Rattle.index.proofs.Laws.{variables-length}
+use Rattle.reader.specs.declared.Words.{Words}
 use Rattle.reader.specs.declared.Words.the-variants.{Read, Wrong}
+use Rattle.reader.specs.Variables.{VariablesRead, VariablesAs}
 use Rattle.reader.specs.Tables.{readPlaces}
-use Rattle.reader.specs.Typed.{noPlaces, ReadAs}
+use Rattle.reader.specs.Typed.{ReadAs}
 use Rattle.reader.proofs.Answers.{reach-stop, reach-fine}
-use Rattle.reader.proofs.Variables.{variables-are, variables-few}
 use Rattle.reader.proofs.Places.{tables-stopped, tables-read}
-
-pub places-long : (ps : List ℕ) → ps ≡ noPlaces → length ps ≡ Max.max-variables
-places-long ps e = rw e
 
 module _ (ws ps : List ℕ) where
   pub words-none : length ws ≡ 0 → ReadAs ws (Wrong 1 (length ws)) ps
@@ -34,53 +32,64 @@ module _ (ws ps : List ℕ) where
   unfolding ReadAs readWords within
   words-over h = rw (lt-leb (length ws) Max.max-words h, le-leb 1 (length ws) (omega arith))
 
-  module _ (some-words : length ws ≡ 0 → ⊥) (not-over : length ws ≤ Max.max-words)
-      (v : Reached) (ev : v ≡ reach (readVariables ws Max.max-variables 0 [])) where
+  -- p₁ are the places once the variables have been read
+  module _ (some-words : length ws ≡ 0 → ⊥) (not-over : length ws ≤ Max.max-words) (p₁ : List ℕ) (v : Words) (hv : VariablesAs ws p₁ v) where
     fit : within 1 Max.max-words (length ws) ≡ true
     unfolding within
     fit = rw (le-leb 1 (length ws) (omega arith), le-leb (length ws) Max.max-words not-over)
 
-    pub words-variables : (k i : ℕ) → v ≡ Refused k i → ReadAs ws (Wrong k i) ps
-    unfolding ReadAs readWords parsed
-    words-variables k i e = rw (fit, reach-stop (readVariables ws Max.max-variables 0 []) k i (sym ev ∙ e))
+    pub words-variables : (k i : ℕ) → v ≡ Wrong k i → ReadAs ws (Wrong k i) ps
+    unfolding ReadAs readWords parsed VariablesAs
+    words-variables k i e = rw (fit, rw e at hv)
 
-    module _ (n : ℕ) (en : v ≡ Next n) (t : Reached) (p₀ : List ℕ) (e₀ : p₀ ≡ noPlaces)
-        (et : told t ps ≡ readPlaces ws (variablesTo ws n) n n p₀) where
-      variables : readVariables ws Max.max-variables 0 [] ≡ fine (variablesTo ws n, n)
-      variables = variables-are ws n v ev en
+    module _ (n i : ℕ) (en : v ≡ Read n i) (t : Reached) (et : told t ps ≡ readPlaces ws (variablesTo ws p₁ n) n i p₁) where
+      read : VariablesRead ws p₁ n i
+      unfolding VariablesAs
+      read = rw en at hv
 
-      small : length (variablesTo ws n) ≤ Max.max-variables
-      small = rw (variables-length ws n) (variables-few ws n v ev en)
+      small : length (variablesTo ws p₁ n) ≤ Max.max-variables
+      small = rw (variables-length ws p₁ n) (read .few)
 
-      pub words-tables : (k i : ℕ) → t ≡ Refused k i → ReadAs ws (Wrong k i) ps
+      pub words-tables : (k x : ℕ) → t ≡ Refused k x → ReadAs ws (Wrong k x) ps
       unfolding ReadAs readWords parsed
-      words-tables k i e =
-          rw (fit, variables, variables-length ws n, tables-stopped ws (variablesTo ws n) small n n k i ps (rw (e, e₀) at et))
+      words-tables k x e =
+          rw (
+            fit,
+            read .variables-read,
+            variables-length ws p₁ n,
+            tables-stopped ws (variablesTo ws p₁ n) small p₁ (read .long) (read .no-tables) n i k x ps (rw e at et),
+          )
 
-      module _ (a : ℕ) (ea : t ≡ Next a) (s : Reached) (es : s ≡ reach (readAssertions ws (variablesTo ws n) Max.max-assertions a)) where
-        pub words-assertions : (k i : ℕ) → s ≡ Refused k i → ReadAs ws (Wrong k i) ps
+      -- the places of the variables' words are as they were
+      module _ (a : ℕ) (ea : t ≡ Next a) (s : Reached) (kept : variablesTo ws ps n ≡ variablesTo ws p₁ n)
+          (es : s ≡ reach (readAssertions ws (variablesTo ws ps n) Max.max-assertions a)) where
+        stopped : (ts : List Table) (k x : ℕ) → readTables ws (variablesTo ws p₁ n) n i [] ≡ fine (ts, a)
+            → readAssertions ws (variablesTo ws ps n) Max.max-assertions a ≡ stop k x → ReadAs ws (Wrong k x) ps
         unfolding ReadAs readWords parsed
-        words-assertions k i f =
-            let r = tables-read ws (variablesTo ws n) small n n a ps (rw (ea, e₀) at et) in
-            rw (fit, variables, variables-length ws n, r .1, reach-stop (readAssertions ws (variablesTo ws n) Max.max-assertions a) k i (sym es ∙ f))
+        stopped ts k x e f = rw (fit, read .variables-read, variables-length ws p₁ n, e, ← kept, f)
 
-        whole : (ts : List Table) (cs : List Condition) (j : ℕ) → readTables ws (variablesTo ws n) n n [] ≡ fine (ts, a)
-            → readAssertions ws (variablesTo ws n) Max.max-assertions a ≡ fine (cs, j)
-            → readWords ws ≡ ok (record { variables = variablesTo ws n; tables = ts; assertions = cs })
+        whole : (ts : List Table) (cs : List Condition) (j : ℕ) → readTables ws (variablesTo ws p₁ n) n i [] ≡ fine (ts, a)
+            → readAssertions ws (variablesTo ws ps n) Max.max-assertions a ≡ fine (cs, j)
+            → readWords ws ≡ ok (record { variables = variablesTo ws ps n; tables = ts; assertions = cs })
         unfolding readWords parsed
-        whole ts cs j e f = rw (fit, variables, variables-length ws n, e, f)
+        whole ts cs j e f = rw (fit, read .variables-read, variables-length ws p₁ n, e, ← kept, f)
+
+        pub words-assertions : (k x : ℕ) → s ≡ Refused k x → ReadAs ws (Wrong k x) ps
+        words-assertions k x f =
+            let r = tables-read ws (variablesTo ws p₁ n) small p₁ (read .long) (read .no-tables) n i a ps (rw ea at et) in
+            stopped (r .0) k x (r .1) (reach-stop (readAssertions ws (variablesTo ws ps n) Max.max-assertions a) k x (sym es ∙ f))
 
         pub words-all : (j : ℕ) → s ≡ Next j → ReadAs ws (Read n a) ps
         unfolding ReadAs
         words-all j f =
-            let r = tables-read ws (variablesTo ws n) small n n a ps (rw (ea, e₀) at et) in
-            let c = reach-fine (readAssertions ws (variablesTo ws n) Max.max-assertions a) j (sym es ∙ f) in (
-              record { variables = variablesTo ws n; tables = r .0; assertions = c .0 },
+            let r = tables-read ws (variablesTo ws p₁ n) small p₁ (read .long) (read .no-tables) n i a ps (rw ea at et) in
+            let c = reach-fine (readAssertions ws (variablesTo ws ps n) Max.max-assertions a) j (sym es ∙ f) in (
+              record { variables = variablesTo ws ps n; tables = r .0; assertions = c .0 },
               record {
                 words-read = whole (r .0) (c .0) j (r .1) (c .1);
-                few = variables-few ws n v ev en;
+                few = read .few;
                 variables-are = refl;
-                tables-are = r .2;
+                tables-are = rw kept (r .2);
                 last = j;
                 assertions-are = c .1;
               },

@@ -1,3 +1,4 @@
+pub mod Variables
 pub mod Formulas
 pub mod Tables
 pub mod Counts

@@ -3,22 +3,24 @@ use Prim.Native.Nat.{ℕ, _<_}
 use mathlib.Core.Path.{_≡_}
 use mathlib.Core.List.{List, [], _∷_}
 use lib.ListN.{length, getD, replicate}
+use Rattle.word.specs.Limits as Max
 use Rattle.meaning.specs.Answers.{ok, refuse}
 use Rattle.meaning.specs.Syntax.{TableSet}
 use Rattle.meaning.specs.Reading.{readWords}
 use Rattle.meaning.specs.States.{weight, stateCount, readTyped}
+use Rattle.index.specs.Places.{place-count}
 use Rattle.index.specs.Indexed.{Indexed}
 use Rattle.reader.specs.declared.Words.{Words}
 use Rattle.reader.specs.declared.Words.the-variants as W
 use Rattle.reader.specs.declared.Typed.{Typed}
 use Rattle.reader.specs.declared.Typed.the-variants as T
 
--- the lent lists as they come: an entry for each of 32 variables
+-- the lent lists as they come
 abbrev pub noPlaces : List ℕ
-noPlaces = replicate 32 0
+noPlaces = replicate place-count 0
 
 abbrev pub noWeights : List ℕ
-noWeights = replicate 32 0
+noWeights = replicate Max.max-variables 0
 
 -- refusals 1 to 5, or the index of the set that the words say
 unfoldable pub ReadAs : List ℕ → Words → List ℕ → Type 0
@@ -29,8 +31,8 @@ ReadAs ws (W.Wrong k i) ps = readWords ws ≡ refuse k (i ∷ [])
 pub record TypedSet (ws : List ℕ) (z : TableSet) (n a c : ℕ) (ps us : List ℕ) : Type 0 where
   pub typed : readTyped ws ≡ ok z
   pub indexed : Indexed ws z n a ps
-  pub places-long : length ps ≡ 32
-  pub weights-long : length us ≡ 32
+  pub places-long : length ps ≡ place-count
+  pub weights-long : length us ≡ Max.max-variables
   pub weights-are : (v : ℕ) → v < n → getD us v 0 ≡ weight z v
   pub states-are : c ≡ stateCount z
 

@@ -1,23 +1,22 @@
 -- One law for each way out of the reading of a set.
-use mathlib.Core.Path.{_≡_, refl, sym, ap, _∙_, subst}
+use mathlib.Core.Path.{_≡_, sym, _∙_, subst}
 use mathlib.Core.List.{List, [], _∷_}
 use Prim.Native.Nat.{ℕ, _≤_}
 use lib.ListN.{length, take}
-use Rattle.meaning.specs.Answers.{Outcome, ok, refuse, _>>=_}
-use Rattle.meaning.specs.Syntax.{TableSet}
+use Rattle.word.specs.Limits as Max
+use Rattle.meaning.specs.Answers.{ok, refuse}
 use Rattle.meaning.specs.Order.{order, noCycle}
 use Rattle.meaning.specs.States.{readTyped, readSet}
 use Rattle.reader.specs.declared.Typed as T
 use Rattle.reader.specs.declared.Typed.the-variants as TV
-use Rattle.reader.specs.Typed.{TypedAs, TypedSet}
+use Rattle.reader.specs.Typed.{TypedAs}
 use Rattle.order.specs.declared.Order as O
 use Rattle.order.specs.declared.Order.the-variants as OV
 use Rattle.order.specs.Orders.{orderAt, noCycleAt, cycleSaid}
 use Rattle.order.proofs.Means.{order-means, order-below}
 use Rattle.theory.specs.Numbered.{typed-number}
-use Rattle.set.specs.declared.SetRead.{SetRead}
 use Rattle.set.specs.declared.SetRead.the-variants.{Set, Refused, Cycle}
-use Rattle.set.specs.ReadSet.{ReadSet, SetAs}
+use Rattle.set.specs.ReadSet.{SetAs}
 
 pub set-refused : (ws ps us os : List ℕ) (t : T.Typed) (k x : ℕ) → TypedAs ws t ps us → t ≡ TV.Refused k x → SetAs ws (Refused k x) ps us os
 unfolding SetAs TypedAs readSet
@@ -26,7 +25,7 @@ set-refused ws ps us os t k x h e =
     let q = typed-number ws k (x ∷ []) r in
     (rw r, q .0, q .1)
 
-pub index-few : (ws ps us : List ℕ) (t : T.Typed) (n a c : ℕ) → TypedAs ws t ps us → t ≡ TV.Set n a c → n ≤ 32
+pub index-few : (ws ps us : List ℕ) (t : T.Typed) (n a c : ℕ) → TypedAs ws t ps us → t ≡ TV.Set n a c → n ≤ Max.max-variables
 unfolding TypedAs
 index-few ws ps us t n a c h e = let p = rw e at h in p .1 .indexed .few
 
@@ -39,7 +38,7 @@ module _ (ws ps us os : List ℕ) (t : T.Typed) (n a c : ℕ) (o : O.Order) (h :
       let s : noCycle (q .0) ≡ refuse 9 (w ∷ m ∷ []) = sym (order-means (q .1 .indexed) .1) ∙ sym eo ∙ rw p in
       rw (q .1 .typed, s)
 
-  pub set-all : o ≡ OV.All → take (length (orderAt ws ps n)) os ≡ orderAt ws ps n → length os ≡ 32 → SetAs ws (Set n a c) ps us os
+  pub set-all : o ≡ OV.All → take (length (orderAt ws ps n)) os ≡ orderAt ws ps n → length os ≡ Max.max-variables → SetAs ws (Set n a c) ps us os
   unfolding SetAs TypedAs cycleSaid readSet
   set-all p take-is long =
       let q = rw e at h in

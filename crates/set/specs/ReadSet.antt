@@ -3,7 +3,8 @@ use Prim.Native.Nat.{ℕ, _≤_}
 use mathlib.Core.Path.{_≡_}
 use mathlib.Core.List.{List, [], _∷_}
 use lib.ListN.{length, take}
-use Rattle.meaning.specs.Answers.{Outcome, ok, refuse}
+use Rattle.word.specs.Limits as Max
+use Rattle.meaning.specs.Answers.{ok, refuse}
 use Rattle.meaning.specs.Syntax.{TableSet}
 use Rattle.meaning.specs.Order.{order, noCycle}
 use Rattle.meaning.specs.States.{readSet}
@@ -17,7 +18,7 @@ pub record ReadSet (ws : List ℕ) (z : TableSet) (n a c : ℕ) (ps us os : List
   pub typed : TypedSet ws z n a c ps us
   pub acyclic : noCycle z ≡ ok tt
   pub order-is : take n os ≡ order z
-  pub order-long : length os ≡ 32
+  pub order-long : length os ≡ Max.max-variables
 
 unfoldable pub SetAs : List ℕ → SetRead → List ℕ → List ℕ → List ℕ → Type 0
 SetAs ws (Set n a c) ps us os = (z : TableSet) × ReadSet ws z n a c ps us os

@@ -5,6 +5,7 @@ use reader::Typed;
 use reader::read_typed;
 ghost use mathlib.Core.Path.{_≡_};
 ghost use lib.ListN.{length};
+ghost use Rattle.word.specs.Limits as Max;
 ghost use Rattle.reader.specs.Typed.{noPlaces, noWeights};
 ghost use Rattle.set.specs.ReadSet.{SetAs};
 
@@ -21,7 +22,7 @@ pub fn read_set(
     weights: &mut [u32],
     order: &mut [usize],
 ) -> SetRead
-    requires { ⌜ (now places ≡ noPlaces) × (now weights ≡ noWeights) × (length (now order) ≡ 32) ⌝ }
+    requires { ⌜ (now places ≡ noPlaces) × (now weights ≡ noWeights) × (length (now order) ≡ Max.max-variables) ⌝ }
     ensures { λ r. ⌜ SetAs (now (words .entry)) r (now (places .exit)) (now (weights .exit)) (now (order .exit)) ⌝ }
 {
     let t = read_typed(words, &mut places[..], &mut weights[..]);

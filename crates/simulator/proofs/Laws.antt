@@ -1,16 +1,17 @@
 -- One law for each way out of the functions of this crate, in the code's own terms.
-use mathlib.Core.Path.{_≡_, refl, sym, ap, _∙_, subst}
+use mathlib.Core.Path.{_≡_, refl, sym, ap, _∙_}
 use mathlib.Core.List.{List, [], _∷_, _++_, append-nil}
 use mathlib.Core.Bool.{Bool, true, false, not}
 use Prim.Native.Nat.{ℕ, zero, suc, _+_, _-_, _%_, _≤_, _<_}
 use native.Mathlib.Omega.{arith}
 use native.Mathlib.Numerals.{add-one}
-use lib.ListN.{length, getD, set, length-set, take, drop, drop-of-length-le, List·getD-eq-default}
+use lib.ListN.{length, getD, set, length-set, drop, drop-of-length-le, List·getD-eq-default}
 use lib.Seq.{sets, sets-eq, drop-cons, getD-set-same, getD-set-other}
 use lib.Dec.{eqb}
-use borrow.Author.Tests.{ne-eqb, eq-eqb, not-true, not-false}
+use borrow.Author.Tests.{ne-eqb, not-true, not-false}
 use Rattle.word.specs.Fields as W
-use Rattle.meaning.specs.Answers.{Outcome, ok, refuse, _>>=_, demand, if_then_else_}
+use Rattle.word.specs.Limits as Max
+use Rattle.meaning.specs.Answers.{ok, _>>=_, if_then_else_}
 use Rattle.meaning.specs.Searches.{listOf}
 use Rattle.theory.specs.Numbers.{length-listOf}
 use Rattle.meaning.specs.Steps.{Input, inputOf}
@@ -19,6 +20,7 @@ use Rattle.meaning.specs.States.{Values}
 use Rattle.judge.specs.declared.Got.{Got}
 use Rattle.judge.specs.declared.Got.the-variants.{Nothing, One, Two}
 use Rattle.judge.specs.Judge.{conditionRowsAt, eventRowsAt}
+use Rattle.index.specs.Numbers.{word-numbers}
 use Rattle.state.specs.Held.{digitAt, numberAt, enabledAt}
 use Rattle.simulator.specs.declared.Stepped.{Stepped}
 use Rattle.simulator.specs.declared.Stepped.the-variants as R
@@ -31,7 +33,7 @@ use Rattle.simulator.specs.Walks.{conditionOf, eventOf, conditionGiven, 
 
 -- ---- what a table gives
 module _ (ws b : List ℕ) (w p m y mode : ℕ) (got : Got) (em : m ≡ W.class-read w) (ey : y ≡ getD b m 0) (ex : mode ≡ y)
-    (eg : got ≡ conditionRowsAt ws b mode 64 0 p Nothing) where
+    (eg : got ≡ conditionRowsAt ws b mode Max.max-rows 0 p Nothing) where
   condition-rows : conditionOf got ≡ conditionGiven ws b w p
   unfolding conditionGiven
   condition-rows = rw (eg, ex, ey, em)
@@ -49,7 +51,7 @@ module _ (ws b : List ℕ) (w p m y mode : ℕ) (got : Got) (em : m ≡ W.class-
   condition-two i j e = rw e at condition-rows
 
 module _ (ws a b : List ℕ) (w p v m y mode old : ℕ) (got : Got) (em : m ≡ W.class-read w) (ey : y ≡ getD a m 0) (ex : mode ≡ y)
-    (eo : old ≡ getD a v 0) (eg : got ≡ eventRowsAt ws a b mode 64 0 p Nothing) where
+    (eo : old ≡ getD a v 0) (eg : got ≡ eventRowsAt ws a b mode Max.max-rows 0 p Nothing) where
   event-rows : eventOf old got ≡ eventGiven ws a b w p v
   unfolding eventGiven
   event-rows = rw (eg, ex, ey, em, eo)
@@ -223,7 +225,7 @@ front-whole from to out l e =
     e ∙ sets-eq from out 0 (omega arith) ∙ ap (λ (r : List ℕ). from ++ r) (drop-of-length-le out past) ∙ append-nil from
 
 -- ---- the step
-pub state-is : (ws ps us b : List ℕ) (n t : ℕ) → t ≡ numberAt ws ps us b n → R.State (t % 4294967296) ≡ R.State (numberAt ws ps us b n % 4294967296)
+pub state-is : (ws ps us b : List ℕ) (n t : ℕ) → t ≡ numberAt ws ps us b n → R.State (t % word-numbers) ≡ R.State (numberAt ws ps us b n % word-numbers)
 state-is ws ps us b n t e = rw e
 
 -- what a walk that ended says
@@ -238,7 +240,7 @@ said side s e (S.StepOverlap v i j) b all p = rw (← p)
 module _ (ws ps us os a b c : List ℕ) (n w v k : ℕ) (r : Settled) (eb : b ≡ a) (ev : v ≡ W.variable w) (ek : k ≡ W.value w)
     (er : joined r c ≡ stepWalk ws ps a v k os b) where
   after-says : (s : ℕ) → afterIndex ws ps us os n s w a
-      ≡ (settledSays 1 s (inputOf w) c r >>= λ d. ok (numberAt ws ps us d n % 4294967296))
+      ≡ (settledSays 1 s (inputOf w) c r >>= λ d. ok (numberAt ws ps us d n % word-numbers))
   unfolding afterIndex
   after-says s = rw (← ek, ← ev, said 1 s (inputOf w) r c (stepWalk ws ps a v k os a) (er ∙ ap (stepWalk ws ps a v k os) eb))
 
@@ -254,7 +256,7 @@ module _ (ws ps us os a b c : List ℕ) (n w v k : ℕ) (r : Settled) (eb : b �
   unfolding steppedSays settledSays
   after-step u i j e s = sym (after-says s ∙ rw e)
 
-  pub after-done : (t : Stepped) → r ≡ S.Done → length c ≡ length b → t ≡ R.State (numberAt ws ps us c (length c) % 4294967296)
+  pub after-done : (t : Stepped) → r ≡ S.Done → length c ≡ length b → t ≡ R.State (numberAt ws ps us c (length c) % word-numbers)
       → n ≡ length a → (s : ℕ) → steppedSays s (inputOf w) t ≡ afterIndex ws ps us os n s w a
   unfolding steppedSays settledSays
   after-done t e len et en s =

@@ -1,20 +1,19 @@
 -- What the code settles from words and places is what the meaning settles of the set that has been read.
-use mathlib.Core.Path.{_≡_, refl, sym, ap, _∙_, subst}
+use mathlib.Core.Path.{_≡_, refl, ap, _∙_}
 use mathlib.Core.Bool.{Bool, true, false}
 use mathlib.Core.List.{List, [], _∷_}
-use Prim.Native.Nat.{ℕ, zero, suc, _%_, _≤_, _<_}
+use Prim.Native.Nat.{ℕ, suc, _%_, _≤_, _<_}
 use native.Mathlib.Omega.{arith}
 use native.Mathlib.Nat.{mod-eq-of-lt}
-use lib.ListN.{length, getD}
+use lib.ListN.{getD}
 use lib.ListN.{set as put}
-use lib.Dec.{eqb}
 use borrow.Author.Tests.{ne-eqb, eq-eqb}
 use Rattle.word.specs.Fields as W
 use Rattle.word.specs.Limits as Max
-use Rattle.meaning.specs.Answers.{Outcome, ok, refuse, _>>=_, demand, if_then_else_}
+use Rattle.meaning.specs.Answers.{Outcome, ok, refuse, _>>=_, demand}
 use Rattle.meaning.specs.Searches.{mem, Hits, no-hit, one-hit, two-hits, listOf}
 use Rattle.meaning.specs.Syntax.{Condition, Event, Variable, Row, TableSet}
-use Rattle.meaning.specs.Lookup.{Source, input, by-event, by-condition, source, count}
+use Rattle.meaning.specs.Lookup.{Source}
 use Rattle.meaning.specs.Reading.{word, bodyOf}
 use Rattle.meaning.specs.Order.{order, noCycle}
 use Rattle.meaning.specs.States.{Values, valueOf, digit, heldValues, number, stateCount, weight}
@@ -24,7 +23,8 @@ use Rattle.index.specs.Places.{variablesTo}
 use Rattle.index.specs.Sources.{SourceAt, no-table, event-at, condition-at, source-at}
 use Rattle.judge.specs.Judge.{gotOf}
 use Rattle.judge.proofs.Means.{condition-rows-means, event-rows-means}
-use Rattle.state.specs.Held.{digitAt, numberAt, enabledAt}
+use Rattle.index.specs.Numbers.{word-numbers}
+use Rattle.state.specs.Held.{digitAt, numberAt}
 use Rattle.state.proofs.Means.{count-is, digit-means, held-values-means, number-means, enabled-means}
 use Rattle.theory.specs.Tests.{mem-here, mem-there}
 use Rattle.theory.specs.WellFormed.{WellFormed}
@@ -33,9 +33,9 @@ use Rattle.theory.specs.Valuations.{valuation-typed}
 use Rattle.theory.specs.StepExactly.{step-at-exactly}
 use Rattle.simulator.specs.declared.Given.{Given}
 use Rattle.simulator.specs.declared.Given.the-variants as G
-use Rattle.simulator.specs.Walks.{conditionOf, eventOf, conditionGiven, eventGiven, givenInBy, givenIn, givenAfterBy, givenAfter, Walk, done, at, onward, walk, stateWalk, stepWalk, givenSays, settledSays, walkSays}
+use Rattle.simulator.specs.Walks.{conditionOf, eventOf, conditionGiven, eventGiven, givenInBy, givenIn, givenAfterBy, givenAfter, at, onward, walk, stateWalk, stepWalk, givenSays, settledSays, walkSays}
 use Rattle.simulator.specs.StepIndex.{afterIndex, stepIndex}
-use Rattle.meaning.specs.Run.{Ran, runFrom}
+use Rattle.meaning.specs.Run.{runFrom}
 use Rattle.simulator.specs.RunIndex.{runIndex}
 
 -- ---- what a table gives, as an answer
@@ -103,8 +103,8 @@ settle-same f g (v ∷ os) b h =
     go (refuse k xs) ih = refl
 
 -- a number that is kept small is kept
-small-same : (m : Outcome Values) (f : Values → ℕ) → ((t : ℕ) → (m >>= λ b. ok (f b)) ≡ ok t → t < 4294967296)
-    → (m >>= λ b. ok (f b % 4294967296)) ≡ (m >>= λ b. ok (f b))
+small-same : (m : Outcome Values) (f : Values → ℕ) → ((t : ℕ) → (m >>= λ b. ok (f b)) ≡ ok t → t < word-numbers)
+    → (m >>= λ b. ok (f b % word-numbers)) ≡ (m >>= λ b. ok (f b))
 small-same (ok b) f h = ap ok (mod-eq-of-lt (h (f b) refl))
 small-same (refuse k xs) f h = refl
 
@@ -118,14 +118,16 @@ module _ (ws : List ℕ) (z : TableSet) (n a : ℕ) (ps us : List ℕ) (ix : Ind
       ∙ rw (held-values-means ws z n a ps us ix wf weights s)
       (settle-same _ _ (order z) (heldValues z s) (λ b v m.
       let l : v < n = rw (← count-is ws z n a ps us ix wf weights) (ordered-below z v m) in
-      rw (digit-means ws z n a ps us ix wf weights s v l) (in-source ws (variablesTo ws n) s e b (digit z s v) v (source-at ix v))))
+      rw (digit-means ws z n a ps us ix wf weights s v l) (in-source ws (variablesTo ws ps n) s e b (digit z s v) v (source-at ix v l))))
 
   pub after-means : (s : ℕ) (e : Input) (b : Values)
       → walkSays 1 s e (stepWalk ws ps b (e .variable) (e .value) (order z) b) ≡ valuesAfter z s e b
   unfolding stepWalk valuesAfter givenAfter altered
   after-means s e b =
       walk-settles 1 s e _ (order z) _
-      ∙ settle-same _ _ (order z) b (λ c v m. after-source ws (variablesTo ws n) s e b c v (source-at ix v))
+      ∙ settle-same _ _ (order z) b (λ c v m.
+      let l : v < n = rw (← count-is ws z n a ps us ix wf weights) (ordered-below z v m) in
+      after-source ws (variablesTo ws ps n) s e b c v (source-at ix v l))
 
   -- the step over the index is the meaning's
   pub step-means : noCycle z ≡ ok tt → stateCount z ≤ Max.max-states → (i s w : ℕ) → s < stateCount z
@@ -135,14 +137,14 @@ module _ (ws : List ℕ) (z : TableSet) (n a : ℕ) (ps us : List ℕ) (ix : Ind
       rw (enabled-means ws z n a ps us ix wf weights s w, values-means s (inputOf w))
       (go (enabledWord z s w) refl (valuesIn z s) refl)
     where
-      typed : (t : ℕ) → stepAt z i s w ≡ ok t → t < 4294967296
+      typed : (t : ℕ) → stepAt z i s w ≡ ok t → t < word-numbers
       typed t e =
           let c = step-at-exactly z acyclic wf i s w t l .0 e in
           let k = valuation-typed z acyclic wf t (c .1 .next .new) (c .1 .next .leads .after) in
           omega (arith, k, few)
 
       go : (on : Bool) → enabledWord z s w ≡ on → (m : Outcome Values) → valuesIn z s ≡ m
-          → (demand on 16 (i ∷ []) >>= λ _. m >>= λ b. walkSays 1 s (inputOf w) (stepWalk ws ps b (W.variable w) (W.value w) (order z) b) >>= λ c. ok (numberAt ws ps us c n % 4294967296))
+          → (demand on 16 (i ∷ []) >>= λ _. m >>= λ b. walkSays 1 s (inputOf w) (stepWalk ws ps b (W.variable w) (W.value w) (order z) b) >>= λ c. ok (numberAt ws ps us c n % word-numbers))
           ≡ (demand on 16 (i ∷ []) >>= λ _. m >>= λ b. valuesAfter z s (inputOf w) b >>= λ c. ok (number z c))
       go false e m em = refl
       go true e (refuse k xs) em = refl
@@ -151,7 +153,7 @@ module _ (ws : List ℕ) (z : TableSet) (n a : ℕ) (ps us : List ℕ) (ix : Ind
           (let h = small-same (valuesAfter z s (inputOf w) b) (number z) (λ t q. typed t (rw (e, em) q)) in
           same (valuesAfter z s (inputOf w) b) ∙ h)
         where
-          same : (o : Outcome Values) → (o >>= λ c. ok (numberAt ws ps us c n % 4294967296)) ≡ (o >>= λ c. ok (number z c % 4294967296))
+          same : (o : Outcome Values) → (o >>= λ c. ok (numberAt ws ps us c n % word-numbers)) ≡ (o >>= λ c. ok (number z c % word-numbers))
           same (ok c) = rw (number-means ws z n a ps us ix wf weights c)
           same (refuse k xs) = refl
 

@@ -1,11 +1,12 @@
 -- The step as the code works it out over the index of a set, with document 01's refusals.
-use Prim.Native.Nat.{ℕ, zero, suc, _%_}
+use Prim.Native.Nat.{ℕ, _%_}
 use mathlib.Core.List.{List, [], _∷_}
 use Rattle.word.specs.Fields as W
 use Rattle.meaning.specs.Answers.{Outcome, ok, refuse, _>>=_, demand}
 use Rattle.meaning.specs.Searches.{listOf}
 use Rattle.meaning.specs.States.{Values}
 use Rattle.meaning.specs.Steps.{Input, inputOf}
+use Rattle.index.specs.Numbers.{word-numbers}
 use Rattle.state.specs.Held.{digitAt, numberAt, enabledAt}
 use Rattle.simulator.specs.declared.Stepped.{Stepped}
 use Rattle.simulator.specs.declared.Stepped.the-variants as R
@@ -22,7 +23,7 @@ steppedSays s e (R.StepOverlap v i j) = refuse 12 (s ∷ e .variable ∷ e .valu
 -- from the values a of state s by event word w
 unfoldable pub afterIndex : List ℕ → List ℕ → List ℕ → List ℕ → ℕ → ℕ → ℕ → Values → Outcome ℕ
 afterIndex ws ps us os n s w a =
-    walkSays 1 s (inputOf w) (stepWalk ws ps a (W.variable w) (W.value w) os a) >>= λ b. ok (numberAt ws ps us b n % 4294967296)
+    walkSays 1 s (inputOf w) (stepWalk ws ps a (W.variable w) (W.value w) os a) >>= λ b. ok (numberAt ws ps us b n % word-numbers)
 
 -- from state s by event word w, number i of its list
 unfoldable pub stepIndex : List ℕ → List ℕ → List ℕ → List ℕ → ℕ → ℕ → ℕ → ℕ → Outcome ℕ

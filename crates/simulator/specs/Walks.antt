@@ -1,6 +1,5 @@
 -- Settling a state and a step as the code does it: from words and places, with the variable at fault and no number of a state.
 use Prim.Native.Nat.{ℕ, zero, suc}
-use mathlib.Core.Bool.{Bool, true, false}
 use mathlib.Core.List.{List, [], _∷_}
 use lib.Dec.{eqb}
 use lib.ListN.{getD}

@@ -6,6 +6,7 @@ ghost use mathlib.Core.Path.{_≡_};
 ghost use Prim.Native.Nat.{_≤_};
 ghost use lib.ListN.{length};
 ghost use lib.Seq.{sets};
+ghost use Rattle.word.specs.Limits as Max;
 ghost use Rattle.simulator.specs.RunIndex.{endedSays, runIndex};
 
 // How a run ended: with the last state, or at the first event not done, with the state before it, its word and what its step gave. The
@@ -29,7 +30,7 @@ pub fn run_events(
     after: &mut [Value],
     trace: &mut [u32],
 ) -> Ended
-    requires { ⌜ (length (now before) ≡ n) × (length (now after) ≡ n) × (n ≤ 32) × (length (now events) ≤ length (now trace)) ⌝ }
+    requires { ⌜ (length (now before) ≡ n) × (length (now after) ≡ n) × (n ≤ Max.max-variables) × (length (now events) ≤ length (now trace)) ⌝ }
     ensures { λ r. ⌜ endedSays r ≡ runIndex (now (words .entry)) (now (places .entry)) (now (weights .entry)) (now (order .entry)) n 0 s (now (events .entry)) .last ⌝ }
     ensures { λ r. ⌜ now (trace .exit) ≡ sets (now (trace .entry)) 0 (runIndex (now (words .entry)) (now (places .entry)) (now (weights .entry)) (now (order .entry)) n 0 s (now (events .entry)) .done) ⌝ }
 {

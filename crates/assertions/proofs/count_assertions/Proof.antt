@@ -1,4 +1,5 @@
 use borrow.Author.Needs.{needs}
+use Rattle.word.specs.Limits as Max
 use Rattle.assertions.proofs.Laws.{count-start, count-end, count-on, count-all}
 use Prim.Native.Nat.{_≤_, _-_, _+_}
 use mathlib.Core.Path.{_≡_}
@@ -10,10 +11,10 @@ use Rattle.assertions.proofs.count_assertions.Lts as lts
 use Rattle.judge.proofs.judge.Reads as judge-reads
 
 abbrev Inv-loop : tie.InvT-loop
-Inv-loop words values at on₀ j₀ on j = (j ≤ 32) × (j + countFrom words values (32 - j) on ≡ countFrom words values 32 at)
+Inv-loop words values at on₀ j₀ on j = (j ≤ Max.max-assertions) × (j + countFrom words values (Max.max-assertions - j) on ≡ countFrom words values Max.max-assertions at)
 
 abbrev μ-loop : tie.MeasureT-loop
-μ-loop words values at on₀ j₀ on j = 32 - j
+μ-loop words values at on₀ j₀ on j = Max.max-assertions - j
 
 loop-holds : tie.Need-loop-holds Inv-loop μ-loop
 loop-holds c = (search needs, search count-start)

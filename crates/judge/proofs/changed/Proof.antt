@@ -1,4 +1,3 @@
-use borrow.Author.Needs.{needs}
 use Rattle.judge.proofs.Laws.{change-true, change-false}
 use Rattle.judge.proofs.changed.Statement.{statement}
 use Rattle.judge.proofs.changed.Tie as tie

@@ -1,4 +1,5 @@
 use borrow.Author.Needs.{needs}
+use Rattle.word.specs.Limits as Max
 use mathlib.Core.Path.{_≡_, refl}
 use Prim.Native.Nat.{_≤_, _-_}
 use Rattle.judge.specs.declared.Got.the-variants.{Nothing}
@@ -15,11 +16,11 @@ use Rattle.judge.proofs.with_row.Reads as with-row-reads
 
 abbrev Inv-loop : tie.InvT-loop
 Inv-loop words values mode at got₀ on₀ i₀ got on i =
-    (i ≤ 64)
-    × (rowsAt words (judgeAt words values 16) mode (64 - i) i on got ≡ conditionRowsAt words values mode 64 0 at Nothing)
+    (i ≤ Max.max-rows)
+    × (rowsAt words (judgeAt words values Max.max-depth) mode (Max.max-rows - i) i on got ≡ conditionRowsAt words values mode Max.max-rows 0 at Nothing)
 
 abbrev μ-loop : tie.MeasureT-loop
-μ-loop words values mode at got₀ on₀ i₀ got on i = 64 - i
+μ-loop words values mode at got₀ on₀ i₀ got on i = Max.max-rows - i
 
 loop-holds : tie.Need-loop-holds Inv-loop μ-loop
 unfolding conditionRowsAt

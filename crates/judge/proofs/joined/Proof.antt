@@ -1,4 +1,3 @@
-use borrow.Author.Needs.{needs}
 use Rattle.judge.proofs.Laws.{join-and, join-or}
 use Rattle.judge.proofs.joined.Statement.{statement}
 use Rattle.judge.proofs.joined.Tie as tie

@@ -1,4 +1,3 @@
-use borrow.Author.Needs.{needs}
 use Rattle.judge.proofs.Laws.{mode-law}
 use Rattle.judge.proofs.mode_is.Statement.{statement}
 use Rattle.judge.proofs.mode_is.Tie as tie

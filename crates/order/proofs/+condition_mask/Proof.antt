@@ -7,7 +7,7 @@ use Rattle.order.proofs.condition_mask.Reads as condition-mask
 use Rattle.order.proofs.condition_mask.Kinds as condition-mask-kinds
 use Rattle.order.proofs.+condition_mask.Lts-condition_mask as condition-mask-lts
 use Rattle.index.proofs.word_at.Reads as word-at-reads
-use Rattle.order.proofs.one_bit.Reads as one-bit-reads
+use Rattle.index.proofs.bits.one_bit.Reads as one-bit-reads
 use Rattle.word.proofs.kind.Reads as kind-reads
 use Rattle.word.proofs.variable.Reads as variable-reads
 use Rattle.order.proofs.+condition_mask.{statement}

@@ -1,4 +1,5 @@
 use borrow.Author.Needs.{needs}
+use Rattle.word.specs.Limits as Max
 use mathlib.Core.Path.{_≡_}
 use Prim.Native.Nat.{_≤_, _-_}
 use lib.ListN.{length, take, length-set}
@@ -10,10 +11,10 @@ use Rattle.order.proofs.fill_masks.Lts as lts
 use Rattle.order.proofs.table_mask.Reads as table-mask-reads
 
 abbrev Inv-loop : tie.InvT-loop
-Inv-loop words places masks₀ v₀ masks v = (v ≤ 32) × (length masks ≡ 32) × (take v masks ≡ masksTo words places v)
+Inv-loop words places masks₀ v₀ masks v = (v ≤ Max.max-variables) × (length masks ≡ Max.max-variables) × (take v masks ≡ masksTo words places v)
 
 abbrev μ-loop : tie.MeasureT-loop
-μ-loop words places masks₀ v₀ masks v = 32 - v
+μ-loop words places masks₀ v₀ masks v = Max.max-variables - v
 
 loop-holds : tie.Need-loop-holds Inv-loop μ-loop
 loop-holds c = (search needs, search needs, search masks-none)

@@ -9,7 +9,7 @@ use Rattle.order.proofs.move_on.Statement.{statement}
 use Rattle.order.proofs.move_on.Tie as tie
 use Rattle.order.proofs.move_on.Reads as reads
 use Rattle.order.proofs.move_on.Lts as lts
-use Rattle.order.proofs.mask_of.Reads as mask-of-reads
+use Rattle.index.proofs.bits.mask_of.Reads as mask-of-reads
 use Rattle.order.proofs.stuck_read.Reads as stuck-read-reads
 
 abbrev Inv-loop : tie.InvT-loop

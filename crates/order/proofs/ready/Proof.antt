@@ -5,7 +5,7 @@ use Rattle.order.proofs.ready.Tie as tie
 use Rattle.order.proofs.ready.Reads as reads
 use Rattle.order.proofs.ready.Lts as lts
 use Rattle.order.proofs.all_taken.Reads as all-taken-reads
-use Rattle.order.proofs.mask_of.Reads as mask-of-reads
+use Rattle.index.proofs.bits.mask_of.Reads as mask-of-reads
 use Rattle.order.proofs.untaken.Reads as untaken-reads
 
 untaken-requires : tie.Need-untaken-requires

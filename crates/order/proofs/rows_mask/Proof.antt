@@ -1,4 +1,5 @@
 use borrow.Author.Needs.{needs}
+use Rattle.word.specs.Limits as Max
 use mathlib.Core.Path.{_≡_, refl}
 use Prim.Native.Nat.{_≤_, _-_}
 use Rattle.order.specs.Masks.{rowsMask}
@@ -12,10 +13,10 @@ use Rattle.order.proofs.formula_mask.Reads as formula-mask-reads
 use Rattle.word.proofs.kind.Reads as kind-reads
 
 abbrev Inv-loop : tie.InvT-loop
-Inv-loop words t at first mask₀ on₀ i₀ mask on i = (i ≤ 64) × (rowsMask words t (64 - i) on mask ≡ rowsMask words t 64 at first)
+Inv-loop words t at first mask₀ on₀ i₀ mask on i = (i ≤ Max.max-rows) × (rowsMask words t (Max.max-rows - i) on mask ≡ rowsMask words t Max.max-rows at first)
 
 abbrev μ-loop : tie.MeasureT-loop
-μ-loop words t at first mask₀ on₀ i₀ mask on i = 64 - i
+μ-loop words t at first mask₀ on₀ i₀ mask on i = Max.max-rows - i
 
 loop-holds : tie.Need-loop-holds Inv-loop μ-loop
 loop-holds c = (search needs, refl)

@@ -1,4 +1,5 @@
 use borrow.Author.Needs.{needs}
+use Rattle.word.specs.Limits as Max
 use mathlib.Core.Path.{_≡_}
 use Prim.Native.Nat.{_≤_, _-_}
 use Rattle.meaning.specs.Searches.{iterate}
@@ -11,10 +12,10 @@ use Rattle.order.proofs.shown_from.Lts as lts
 use Rattle.order.proofs.move_on.Reads as move-on-reads
 
 abbrev Inv-loop : tie.InvT-loop
-Inv-loop masks n taken v u₀ i₀ u i = (i ≤ 32) × (u ≡ iterate (moveBy masks n taken) i v)
+Inv-loop masks n taken v u₀ i₀ u i = (i ≤ Max.cycle-moves) × (u ≡ iterate (moveBy masks n taken) i v)
 
 abbrev μ-loop : tie.MeasureT-loop
-μ-loop masks n taken v u₀ i₀ u i = 32 - i
+μ-loop masks n taken v u₀ i₀ u i = Max.cycle-moves - i
 
 loop-holds : tie.Need-loop-holds Inv-loop μ-loop
 loop-holds c = (search needs, search moves-none)

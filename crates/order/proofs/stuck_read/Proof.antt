@@ -4,7 +4,7 @@ use Rattle.order.proofs.stuck_read.Statement.{statement}
 use Rattle.order.proofs.stuck_read.Tie as tie
 use Rattle.order.proofs.stuck_read.Reads as reads
 use Rattle.order.proofs.stuck_read.Lts as lts
-use Rattle.order.proofs.bit.Reads as bit-reads
+use Rattle.index.proofs.bits.bit.Reads as bit-reads
 use Rattle.order.proofs.untaken.Reads as untaken-reads
 
 untaken-requires : tie.Need-untaken-requires

@@ -6,7 +6,7 @@ use Rattle.order.proofs.table_mask.Reads as reads
 use Rattle.order.proofs.table_mask.Lts as lts
 use Rattle.index.proofs.place_of.Reads as place-of-reads
 use Rattle.index.proofs.word_at.Reads as word-at-reads
-use Rattle.order.proofs.one_bit.Reads as one-bit-reads
+use Rattle.index.proofs.bits.one_bit.Reads as one-bit-reads
 use Rattle.order.proofs.rows_mask.Reads as rows-mask-reads
 use Rattle.word.proofs.class_read.Reads as class-read-reads
 use Rattle.word.proofs.sort.Reads as sort-reads

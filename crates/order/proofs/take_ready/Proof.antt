@@ -1,4 +1,5 @@
 use borrow.Author.Needs.{needs}
+use Rattle.word.specs.Limits as Max
 use mathlib.Core.Path.{_≡_}
 use Prim.Native.Nat.{_≤_, _-_}
 use lib.ListN.{length, take, length-set}
@@ -9,10 +10,10 @@ use Rattle.order.proofs.take_ready.Tie as tie
 use Rattle.order.proofs.take_ready.Reads as reads
 use Rattle.order.proofs.take_ready.Lts as lts
 use Rattle.order.proofs.next_ready.Reads as next-ready-reads
-use Rattle.order.proofs.one_bit.Reads as one-bit-reads
+use Rattle.index.proofs.bits.one_bit.Reads as one-bit-reads
 
 abbrev Inv-loop : tie.InvT-loop
-Inv-loop masks n order₀ taken₀ i₀ order taken i = (i ≤ n) × (length order ≡ 32) × (taken ≡ maskOf (take i order) 0) × (takeBy masks n (n - i) (take i order) ≡ orderBy masks n)
+Inv-loop masks n order₀ taken₀ i₀ order taken i = (i ≤ n) × (length order ≡ Max.max-variables) × (taken ≡ maskOf (take i order) 0) × (takeBy masks n (n - i) (take i order) ≡ orderBy masks n)
 
 abbrev μ-loop : tie.MeasureT-loop
 μ-loop masks n order₀ taken₀ i₀ order taken i = n - i

@@ -4,7 +4,7 @@ use Rattle.order.proofs.untaken.Statement.{statement}
 use Rattle.order.proofs.untaken.Tie as tie
 use Rattle.order.proofs.untaken.Reads as reads
 use Rattle.order.proofs.untaken.Lts as lts
-use Rattle.order.proofs.bit.Reads as bit-reads
+use Rattle.index.proofs.bits.bit.Reads as bit-reads
 
 bit-requires : tie.Need-bit-requires
 bit-requires c κs = search needs

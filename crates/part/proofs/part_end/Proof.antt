@@ -3,7 +3,7 @@ use Rattle.meaning.specs.Searches.{least}
 use lib.ListN.{length}
 use Prim.Native.Nat.{_≤_, _-_, _+_}
 use mathlib.Core.Option.{none}
-use mathlib.Core.Path.{_≡_, refl}
+use mathlib.Core.Path.{_≡_}
 use Rattle.part.proofs.Laws.{Ends, first-none, end-here, end-on, end-none}
 use Rattle.part.proofs.part_end.Statement.{statement}
 use Rattle.part.proofs.part_end.Tie as tie

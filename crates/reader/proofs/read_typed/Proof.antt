@@ -4,7 +4,7 @@ use Rattle.reader.proofs.read_typed.Statement.{statement}
 use Rattle.reader.proofs.read_typed.Tie as tie
 use Rattle.reader.proofs.read_typed.Reads as reads
 use Rattle.reader.proofs.read_typed.Lts as lts
-use Rattle.reader.proofs.count_states.Reads as count-states-reads
+use Rattle.reader.proofs.counts.count_states.Reads as count-states-reads
 use Rattle.reader.proofs.read_words.Reads as read-words-reads
 
 read-words-requires : tie.Need-read-words-requires

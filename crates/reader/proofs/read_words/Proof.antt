@@ -1,13 +1,13 @@
-use Rattle.reader.proofs.Variables.{variables-few}
-use Rattle.reader.proofs.Whole.{places-long, words-none, words-over, words-variables, words-tables, words-assertions, words-all}
+use Rattle.reader.proofs.Whole.{words-none, words-over, words-variables, words-tables, words-assertions, words-all}
+use Rattle.reader.proofs.VariableLaws.{variables-few, variables-long}
 use borrow.Author.Needs.{needs}
 use Rattle.reader.proofs.read_words.Statement.{statement}
 use Rattle.reader.proofs.read_words.Tie as tie
 use Rattle.reader.proofs.read_words.Reads as reads
 use Rattle.reader.proofs.read_words.Lts as lts
-use Rattle.reader.proofs.read_assertions.Reads as read-assertions-reads
-use Rattle.reader.proofs.read_tables.Reads as read-tables-reads
-use Rattle.reader.proofs.read_variables.Reads as read-variables-reads
+use Rattle.reader.proofs.assertions.read_assertions.Reads as read-assertions-reads
+use Rattle.reader.proofs.tables.read_tables.Reads as read-tables-reads
+use Rattle.reader.proofs.variables.read_variables.Reads as read-variables-reads
 
 returns : tie.Need-returns
 returns c = search words-none
@@ -25,7 +25,7 @@ enum-known-variables-2 : tie.Need-enum-known-variables-2
 enum-known-variables-2 c = search needs
 
 read-tables-requires : tie.Need-read-tables-requires
-read-tables-requires c κs = (search places-long, search variables-few)
+read-tables-requires c κs = (search variables-long, search variables-few)
 
 enum-known-tables : tie.Need-enum-known-tables
 enum-known-tables c = search needs
@@ -42,26 +42,35 @@ enum-known-assertions c = search needs
 enum-told : tie.Need-enum-told
 enum-told c = search needs
 
-returns-3 : tie.Need-returns-3
-returns-3 c = search words-variables
-
 same-length : tie.Need-same-length
 same-length c = search needs
 
-returns-4 : tie.Need-returns-4
-returns-4 c = search words-tables
+returns-3 : tie.Need-returns-3
+returns-3 c = search words-variables
 
 same-length-2 : tie.Need-same-length-2
 same-length-2 c = search needs
 
-returns-5 : tie.Need-returns-5
-returns-5 c = search words-assertions
+returns-4 : tie.Need-returns-4
+returns-4 c = search words-tables
 
 same-length-3 : tie.Need-same-length-3
 same-length-3 c = search needs
 
+returns-5 : tie.Need-returns-5
+returns-5 c = search words-assertions
+
+same-length-4 : tie.Need-same-length-4
+same-length-4 c = search needs
+
 returns-6 : tie.Need-returns-6
-returns-6 c = search words-all
+returns-6 c =
+    let asserted = c .before .before in
+    let tabled = asserted .before .before .before .before .before .before .before in
+    let varied = tabled .before .before .before .before .before .before .before in
+    let sized = varied .before .before in
+    words-all _ _ (sized .before .if1 .left) (sized .if2 .left) _ _ (varied .read-variables .ensures) _ _ (tabled .before .before .before .variables2 .given .1) _ (tabled .read-tables .ensures .0) _ (asserted .before .before .before .tables2 .given .1)
+    _ (tabled .read-tables .ensures .1) (asserted .read-assertions .ensures) _ (c .enum-told .given .1)
 
 pub read-words-spec : {M : Type 1} → statement M
 read-words-spec =
@@ -78,10 +87,11 @@ read-words-spec =
     read-assertions-requires
     enum-known-assertions
     enum-told
-    returns-3
     same-length
-    returns-4
+    returns-3
     same-length-2
-    returns-5
+    returns-4
     same-length-3
+    returns-5
+    same-length-4
     returns-6)
