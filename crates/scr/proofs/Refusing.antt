@@ -12,7 +12,13 @@ use Rattle.simulator.specs.StepIndex.{steppedSays}
 use Rattle.scr.specs.declared.Refusal.{Refusal}
 use Rattle.scr.specs.declared.Refusal.the-variants as R
 use Rattle.scr.specs.declared.Answer.the-variants as A
+use Rattle.scr.specs.declared.telling.Told.{Told}
 use Rattle.scr.specs.Answers.{refusalSays, refused, answerSays}
+use Rattle.scr.specs.Telling.{Tells}
+
+-- ---- a refusal as numbers, its case being known
+pub told-case : (t : Told) (q q′ : Refusal) → q ≡ q′ → Tells t (refusalSays q′) → Tells t (refusalSays q)
+told-case t q q′ e h = rw e h
 
 -- ---- 1 to 8
 next-up : (k m : ℕ) → m ≤ k → (k ≡ m → ⊥) → suc m ≤ k

@@ -5,6 +5,7 @@ mod calls; // what is done once the set has been read
 mod opening; // reading the set
 mod refusals; // making refusals
 mod runs; // a run of a set that reads
+pub mod telling; // a refusal as numbers
 mod verdicts; // the verdict of a set that reads
 
 use crate::opening::Opened;
@@ -24,7 +25,7 @@ ghost use Rattle.meaning.specs.Passes.{Refused};
 ghost use Rattle.meaning.specs.Demand1.{StartRefused, StepRefused, ValuesRefused, AnswersOrRefuses, RunAnswers, RowsAnswers};
 ghost use Rattle.meaning.specs.Demand3.{Demand3};
 ghost use Rattle.meaning.specs.Check.{checkOf};
-ghost use Rattle.scr.specs.Answers.{refusalSays, answerSays, verdictSays, countSays, countOf};
+ghost use Rattle.scr.specs.Answers.{answerSays, verdictSays, countSays, countOf};
 ghost use Rattle.scr.specs.Promises.{Demand2, StepsExactly};
 
 // ---- answers
@@ -92,31 +93,6 @@ pub enum Refusal {
     NoState(u32),
     NotEnabled(usize),
     Room(usize),
-}
-
-// The number of a refusal, for those that answer by numbers.
-pub fn refusal_number(r: Refusal) -> u32
-    ensures { λ n. ⌜ n ≡ refusalSays r .0 ⌝ }
-{
-    match r {
-        Refusal::Length(_) => 1,
-        Refusal::Kind(_) => 2,
-        Refusal::Range(_) => 3,
-        Refusal::Limit(_) => 4,
-        Refusal::Fit(_) => 5,
-        Refusal::NoTable(_) => 6,
-        Refusal::InitialValue(_) => 7,
-        Refusal::States(_) => 8,
-        Refusal::Cycle(_) => 9,
-        Refusal::Gap(_) => 10,
-        Refusal::Overlap(_) => 11,
-        Refusal::StepOverlap(_) => 12,
-        Refusal::FalseInitially(_) => 13,
-        Refusal::Broken(_) => 14,
-        Refusal::NoState(_) => 15,
-        Refusal::NotEnabled(_) => 16,
-        Refusal::Room(_) => 17,
-    }
 }
 
 // A state, or the refusal.
