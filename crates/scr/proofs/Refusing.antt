@@ -1,11 +1,11 @@
 -- Laws of the functions that make refusals, one for each way out.
-use mathlib.Core.Path.{_≡_, refl, sym, ap, _∙_}
+use mathlib.Core.Path.{_≡_}
 use mathlib.Core.List.{List, [], _∷_}
 use Prim.Native.Nat.{ℕ, suc, _≤_}
 use native.Mathlib.Omega.{arith}
 use Rattle.word.specs.Fields as W
-use Rattle.meaning.specs.Answers.{Outcome, ok, refuse}
-use Rattle.meaning.specs.Steps.{Input, inputOf}
+use Rattle.meaning.specs.Answers.{Outcome, refuse}
+use Rattle.meaning.specs.Steps.{inputOf}
 use Rattle.simulator.specs.declared.Stepped as S
 use Rattle.simulator.specs.declared.Stepped.the-variants as SV
 use Rattle.simulator.specs.StepIndex.{steppedSays}

@@ -8,11 +8,10 @@ mod runs; // a run of a set that reads
 pub mod telling; // a refusal as numbers
 mod verdicts; // the verdict of a set that reads
 
-use crate::opening::Opened;
+use crate::opening::Reading;
 use crate::opening::open;
 use part::part_end;
 use part::part_start;
-use state::initial_state;
 use verdicts::verdict;
 use word::Value;
 ghost use mathlib.Core.Path.{_≡_};
@@ -127,13 +126,11 @@ pub fn start(words: &[u32]) -> Answer
     ensures { λ r. ⌜ answerSays r ≡ startOf (now (words .entry)) ⌝ }
     ensures { λ r. ⌜ AnswersOrRefuses (answerSays r) (StartRefused (now (words .entry))) ⌝ }
 {
-    let mut places = [0usize; 32];
-    let mut weights = [0u32; 32];
-    let mut order = [0usize; 32];
-    let o = open(words, &mut places, &mut weights, &mut order);
-    match o {
-        Opened::Refused(q) => Answer::Refused(q),
-        Opened::Set(n, _, _) => Answer::State(initial_state(words, &places, &weights, n)),
+    let o = open(words);
+    let reading = o.reading;
+    match reading {
+        Reading::Refused(q) => Answer::Refused(q),
+        Reading::Set => calls::start(words, o.index),
     }
 }
 
@@ -143,13 +140,11 @@ pub fn check(words: &[u32]) -> Verdict
     ensures { λ r. ⌜ AnswersOrRefuses (verdictSays r) (Refused (now (words .entry))) ⌝ }
     ensures { λ r. ⌜ Demand2 (now (words .entry)) r ⌝ }
 {
-    let mut places = [0usize; 32];
-    let mut weights = [0u32; 32];
-    let mut order = [0usize; 32];
-    let o = open(words, &mut places, &mut weights, &mut order);
-    match o {
-        Opened::Refused(q) => Verdict::Refused(q),
-        Opened::Set(n, a, c) => verdict(words, &places, &weights, &order[0..n], n, a, c),
+    let o = open(words);
+    let reading = o.reading;
+    match reading {
+        Reading::Refused(q) => Verdict::Refused(q),
+        Reading::Set => verdict(words, o.index),
     }
 }
 
@@ -160,22 +155,11 @@ pub fn step(words: &[u32], state: u32, event: u32) -> Answer
     ensures { λ r. ⌜ AnswersOrRefuses (answerSays r) (StepRefused (now (words .entry)) state event) ⌝ }
     ensures { λ r. ⌜ StepsExactly (now (words .entry)) state event r ⌝ }
 {
-    let mut places = [0usize; 32];
-    let mut weights = [0u32; 32];
-    let mut order = [0usize; 32];
-    let o = open(words, &mut places, &mut weights, &mut order);
-    match o {
-        Opened::Refused(q) => Answer::Refused(q),
-        Opened::Set(n, _, c) => calls::step(
-            words,
-            &places,
-            &weights,
-            &order[0..n],
-            n,
-            c,
-            state,
-            event,
-        ),
+    let o = open(words);
+    let reading = o.reading;
+    match reading {
+        Reading::Refused(q) => Answer::Refused(q),
+        Reading::Set => calls::step(words, o.index, state, event),
     }
 }
 
@@ -187,24 +171,11 @@ pub fn run(words: &[u32], state: u32, events: &[u32], trace: &mut [u32], place: 
     ensures { λ r. ⌜ RunAnswers (now (words .entry)) state (now (events .entry)) (now (trace .entry)) place (answerSays r) (now (trace .exit)) ⌝ }
     ensures { λ r. ⌜ Demand3 (now (words .entry)) state (now (events .entry)) (now (trace .entry)) place (answerSays r) (now (trace .exit)) ⌝ }
 {
-    let mut places = [0usize; 32];
-    let mut weights = [0u32; 32];
-    let mut order = [0usize; 32];
-    let o = open(words, &mut places, &mut weights, &mut order);
-    match o {
-        Opened::Refused(q) => Answer::Refused(q),
-        Opened::Set(n, _, c) => runs::run(
-            words,
-            &places,
-            &weights,
-            &order[0..n],
-            n,
-            c,
-            state,
-            events,
-            &mut trace[..],
-            place,
-        ),
+    let o = open(words);
+    let reading = o.reading;
+    match reading {
+        Reading::Refused(q) => Answer::Refused(q),
+        Reading::Set => runs::run(words, o.index, state, events, &mut trace[..], place),
     }
 }
 
@@ -214,22 +185,11 @@ pub fn values(words: &[u32], state: u32, out: &mut [Value]) -> Count
     ensures { λ r. ⌜ now (out .exit) ≡ lentValues (valuesOf (now (words .entry)) state (length (now (out .entry)))) (now (out .entry)) ⌝ }
     ensures { λ r. ⌜ AnswersOrRefuses (countSays r) (ValuesRefused (now (words .entry)) state (length (now (out .entry)))) ⌝ }
 {
-    let mut places = [0usize; 32];
-    let mut weights = [0u32; 32];
-    let mut order = [0usize; 32];
-    let o = open(words, &mut places, &mut weights, &mut order);
-    match o {
-        Opened::Refused(q) => Count::Refused(q),
-        Opened::Set(n, _, c) => calls::values(
-            words,
-            &places,
-            &weights,
-            &order[0..n],
-            n,
-            c,
-            state,
-            &mut out[..],
-        ),
+    let o = open(words);
+    let reading = o.reading;
+    match reading {
+        Reading::Refused(q) => Count::Refused(q),
+        Reading::Set => calls::values(words, o.index, state, &mut out[..]),
     }
 }
 

@@ -1,15 +1,15 @@
 -- Laws of the host's functions, one for each way out.
-use mathlib.Core.Path.{_≡_, refl, sym, ap, _∙_}
+use mathlib.Core.Path.{_≡_, refl, sym, _∙_}
 use mathlib.Core.List.{List, [], _∷_}
 use mathlib.Core.Bool.{Bool, true, false, not, _&&_}
-use Prim.Native.Nat.{ℕ, zero, suc, _+_, _*_, _/_, _%_, _^_, _<_, _≤_}
+use Prim.Native.Nat.{ℕ, _+_, _/_, _%_, _<_, _≤_}
 use native.Mathlib.Omega.{arith}
 use lib.ListN.{length, take}
 use lib.Seq.{length-take-le}
 use lib.Dec.{eqb, leb}
 use borrow.Author.Tests.{eqb-true, leb-true, leb-false, le-leb, lt-leb, not-true, not-false}
 use Rattle.word.specs.Limits as Max
-use Rattle.meaning.specs.Answers.{Outcome, ok, refuse, _>>=_, demand}
+use Rattle.meaning.specs.Answers.{Outcome, ok, refuse, _>>=_}
 use Rattle.meaning.specs.Searches.{within}
 use Rattle.meaning.specs.Syntax.{TableSet}
 use Rattle.meaning.specs.Reading.{readWords}
