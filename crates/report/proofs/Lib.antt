@@ -1,6 +1,5 @@
 pub mod Words
 pub mod Numbers
-pub mod Listing
 pub mod Printing
 pub mod Parting
 pub mod Counting

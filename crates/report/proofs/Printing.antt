@@ -1,10 +1,9 @@
 -- Laws of lines in the buffer, one for each way out.
-use mathlib.Core.Path.{_≡_, refl, sym, ap, _∙_}
+use mathlib.Core.Path.{_≡_, sym, _∙_}
 use mathlib.Core.List.{List, [], _∷_, _++_, append-assoc, append-nil}
-use Prim.Native.Nat.{ℕ, zero, suc, _+_, _-_, _*_, _<_, _≤_}
-use native.Mathlib.Omega.{arith}
+use Prim.Native.Nat.{ℕ, _+_, _-_, _<_, _≤_}
 use native.Mathlib.Numerals.{add-one}
-use native.Mathlib.Nat.{add-zero, sub-zero}
+use native.Mathlib.Nat.{sub-zero}
 use lib.ListN.{length, getD, take, drop, drop-of-length-le}
 use lib.Seq.{take-suc, take-all, drop-cons}
 use Rattle.word.specs.Fields as W
@@ -12,9 +11,11 @@ use Rattle.meaning.specs.Reading.{word}
 use Rattle.meaning.specs.Program.{decimal, fields, passLine, refuseLine, eventLine, eventLines}
 use Rattle.scr.specs.declared.Counts.{Counts}
 use Rattle.scr.specs.declared.Refusal.{Refusal}
+use Rattle.scr.specs.declared.telling.Told.{Told}
 use Rattle.scr.specs.Answers.{refusalSays}
+use Rattle.scr.specs.Telling.{Tells}
 use Rattle.report.specs.Text.{upTo}
-use Rattle.report.specs.Lines.{numbersOf, countsOf}
+use Rattle.report.specs.Lines.{countsOf}
 
 -- ---- a name
 pub name-none : (name xs : List ℕ) (at : ℕ) → upTo at xs ≡ upTo at xs ++ take 0 name
@@ -42,21 +43,18 @@ module _ (ns xs ys : List ℕ) (at on i : ℕ) (inv : upTo on ys ++ fields (drop
   unfolding fields
   fields-end zs r h q = q ∙ (rw (drop-of-length-le ns h) at inv)
 
--- the numbers that are lent
-pub listed-put : (xs ys ns : List ℕ) (at r n : ℕ) → upTo r ys ≡ upTo at xs ++ fields (take (n - 0) (drop 0 ns))
-    → upTo r ys ≡ upTo at xs ++ fields (take n ns)
-listed-put xs ys ns at r n e = rw (sub-zero n) at e
-
 -- ---- the line of a set
-pub pass-put : (xs ys zs ns : List ℕ) (at on r : ℕ) (c : Counts) → upTo on ys ≡ upTo at xs ++ (80 ∷ 65 ∷ 83 ∷ 83 ∷ [])
-    → ns ≡ c .states ∷ c .steps ∷ c .assertions ∷ [] → upTo r zs ≡ upTo on ys ++ fields ns → upTo r zs ≡ upTo at xs ++ passLine (countsOf c)
+pub pass-put : (xs ys zs : List ℕ) (at on r : ℕ) (c : Counts) → upTo on ys ≡ upTo at xs ++ (80 ∷ 65 ∷ 83 ∷ 83 ∷ [])
+    → upTo r zs ≡ upTo on ys ++ fields (c .states ∷ c .steps ∷ c .assertions ∷ []) → upTo r zs ≡ upTo at xs ++ passLine (countsOf c)
 unfolding passLine
-pass-put xs ys zs ns at on r c e en q = rw (q, en, e, append-assoc)
+pass-put xs ys zs at on r c e q = rw (q, e, append-assoc)
 
-pub refusal-put : (xs ys zs ns : List ℕ) (at on r : ℕ) (q : Refusal) → upTo on ys ≡ upTo at xs ++ (82 ∷ 69 ∷ 70 ∷ 85 ∷ 83 ∷ 69 ∷ [])
-    → ns ≡ numbersOf q → upTo r zs ≡ upTo on ys ++ fields ns → upTo r zs ≡ upTo at xs ++ refuseLine (refusalSays q .0) (refusalSays q .1)
-unfolding refuseLine numbersOf
-refusal-put xs ys zs ns at on r q e en h = rw (h, en, e, append-assoc)
+pub refusal-put : (xs ns fs zs : List ℕ) (at named on r : ℕ) (t : Told) (q : Refusal) → Tells t (refusalSays q)
+    → upTo named ns ≡ upTo at xs ++ (82 ∷ 69 ∷ 70 ∷ 85 ∷ 83 ∷ 69 ∷ []) → upTo on fs ≡ upTo named ns ++ (32 ∷ decimal (t .number))
+    → upTo r zs ≡ upTo on fs ++ fields (take (t .count - 0) (drop 0 (t .carried))) → upTo r zs ≡ upTo at xs ++ refuseLine (refusalSays q .0) (refusalSays q .1)
+unfolding refuseLine fields
+refusal-put xs ns fs zs at named on r t q h en ef ez =
+    rw (ez, ef, en, h .number, sub-zero (t .count), h .carried) (simp append-assoc)
 
 -- ---- the lines of events
 pub event-put : (es xs ys zs : List ℕ) (at on r i s w v k : ℕ) → w ≡ word es i → v ≡ W.variable w → k ≡ W.value w → upTo on ys ≡ upTo at xs ++ decimal i

@@ -1,6 +1,6 @@
 -- Laws of the whole output, one for each way out.
-use mathlib.Core.Path.{_≡_, refl, sym, ap, _∙_}
-use mathlib.Core.List.{List, [], _∷_, _++_}
+use mathlib.Core.Path.{_≡_, sym}
+use mathlib.Core.List.{List, _++_}
 use Prim.Native.Nat.{ℕ, _-_, _≤_}
 use native.Mathlib.Omega.{arith}
 use native.Mathlib.Nat.{sub-zero}
@@ -15,6 +15,7 @@ use Rattle.scr.specs.declared.Verdict.{Verdict}
 use Rattle.scr.specs.declared.Verdict.the-variants as Verdicts
 use Rattle.scr.specs.Answers.{refusalSays, refused, verdictSays}
 use Rattle.scr.specs.Promises.{Demand2}
+use Rattle.report.specs.Room as Room
 use Rattle.report.specs.Text.{upTo}
 use Rattle.report.specs.Lines.{countsOf}
 use Rattle.report.specs.Runs.{Passed}
@@ -50,5 +51,5 @@ pub reported : (bs ws ys : List ℕ) (n r : ℕ) → take n ws ≡ inputWords bs
 unfolding programOf printedOf upTo
 reported bs ws ys n r e h = rw (sub-zero n, e) at h
 
-pub counted : (ys xs : List ℕ) (r : ℕ) → r ≤ 344372 → 344372 ≤ length xs → length ys ≡ length xs → r ≡ length (take r ys)
+pub counted : (ys xs : List ℕ) (r : ℕ) → r ≤ Room.output → Room.output ≤ length xs → length ys ≡ length xs → r ≡ length (take r ys)
 counted ys xs r h room l = sym (length-take-le r ys (omega arith))

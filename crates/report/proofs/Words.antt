@@ -1,13 +1,13 @@
 -- Laws of the input's words, one for each way out.
-use mathlib.Core.Path.{_≡_, refl, sym, ap, _∙_}
-use mathlib.Core.List.{List, [], _∷_, _++_}
-use Prim.Native.Nat.{ℕ, zero, suc, _+_, _*_, _/_, _<_, _≤_}
+use mathlib.Core.Path.{_≡_, refl, ap, _∙_}
+use mathlib.Core.List.{List}
+use Prim.Native.Nat.{ℕ, _+_, _*_, _<_, _≤_}
 use native.Mathlib.Omega.{arith}
 use native.Mathlib.Numerals.{add-one}
-use lib.Dec.{leb}
 use lib.ListN.{length, getD, take, set}
 use lib.Seq.{take-suc-set}
 use borrow.Author.Tests.{le-leb, lt-leb}
+use Rattle.word.specs.Limits as Max
 use Rattle.meaning.specs.Searches.{listOf}
 use Rattle.meaning.specs.Host.{wordOfBytes}
 use Rattle.meaning.specs.Program.{inputWord, inputWords}
@@ -19,17 +19,18 @@ module _ (bs : List ℕ) (i : ℕ) where
   unfolding inputWord
   word-broken h = rw (lt-leb (i * 4 + 4) (length bs) h)
 
-  pub word-whole : (a b c d : ℕ) → i * 4 + 4 ≤ length bs → a ≡ getD bs (i * 4) 0 → b ≡ getD bs (i * 4 + 1) 0 → c ≡ getD bs (i * 4 + 2) 0
-      → d ≡ getD bs (i * 4 + 3) 0 → a + b * 256 + c * 65536 + d * 16777216 ≡ inputWord bs i
+  pub word-whole : (r : ℕ) → i * 4 + 4 ≤ length bs
+      → r ≡ getD bs (i * 4) 0 + getD bs (i * 4 + 1) 0 * 256 + getD bs (i * 4 + 2) 0 * 65536 + getD bs (i * 4 + 3) 0 * 16777216
+      → r ≡ inputWord bs i
   unfolding inputWord wordOfBytes
-  word-whole a b c d h ea eb ec ed = rw (le-leb (i * 4 + 4) (length bs) h, ← ea, ← eb, ← ec, ← ed)
+  word-whole r h e = rw (le-leb (i * 4 + 4) (length bs) h) e
 
 -- ---- all of them
 pub filled-none : (bs ws : List ℕ) → take 0 ws ≡ listOf (inputWord bs) 0
 unfolding listOf
 filled-none bs ws = refl
 
-pub filled-on : (bs ws : List ℕ) (i r m n : ℕ) → i < n → n ≤ 8192 → length ws ≡ m → m ≡ 8192 → r ≡ inputWord bs i → take i ws ≡ listOf (inputWord bs) i
+pub filled-on : (bs ws : List ℕ) (i r m n : ℕ) → i < n → n ≤ Max.max-input-words → length ws ≡ m → m ≡ Max.max-input-words → r ≡ inputWord bs i → take i ws ≡ listOf (inputWord bs) i
     → take (i + 1) (set ws i r) ≡ listOf (inputWord bs) (i + 1)
 unfolding listOf
 filled-on bs ws i r m n h few len room er e =

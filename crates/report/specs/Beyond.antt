@@ -7,9 +7,14 @@ use native.Mathlib.Decide.{decLe}
 use lib.ListN.{length, take}
 use lib.Seq.{take-all, length-take-le, getD-take}
 use borrow.Author.Tests.{le-leb}
+use Rattle.word.specs.Limits as Max
 use Rattle.meaning.specs.Searches.{listOf}
 use Rattle.meaning.specs.Host.{wordOfBytes}
 use Rattle.meaning.specs.Program.{inputWord, inputWords, programOf}
+
+-- bytes of the words that are looked at
+abbrev pub max-input : ℕ
+max-input = Max.max-input-words * 4
 
 list-same : (f g : ℕ → ℕ) (n : ℕ) → ((i : ℕ) → i < n → f i ≡ g i) → listOf f n ≡ listOf g n
 unfolding listOf
@@ -31,14 +36,14 @@ word-same bs m i h l =
       getD-take m bs (i * 4 + 3) 0 (omega arith),
     )
 
-words-same : (bs : List ℕ) (m : ℕ) → m ≡ 32768 → m ≤ length bs → inputWords (take m bs) ≡ inputWords bs
+words-same : (bs : List ℕ) (m : ℕ) → m ≡ max-input → m ≤ length bs → inputWords (take m bs) ≡ inputWords bs
 unfolding inputWords
 words-same bs m e l =
-    let a : min 8192 ((length (take m bs) + 3) / 4) ≡ 8192 = omega (arith, length-take-le m bs l) in
-    let b : min 8192 ((length bs + 3) / 4) ≡ 8192 = omega arith in
-    rw (a, b) (list-same (inputWord (take m bs)) (inputWord bs) 8192 (λ i h. word-same bs m i (omega arith) l))
+    let a : min Max.max-input-words ((length (take m bs) + 3) / 4) ≡ Max.max-input-words = omega (arith, length-take-le m bs l) in
+    let b : min Max.max-input-words ((length bs + 3) / 4) ≡ Max.max-input-words = omega arith in
+    rw (a, b) (list-same (inputWord (take m bs)) (inputWord bs) Max.max-input-words (λ i h. word-same bs m i (omega arith) l))
 
-pub beyond-ignored : (bs : List ℕ) → programOf (take 32768 bs) ≡ programOf bs
+pub beyond-ignored : (bs : List ℕ) → programOf (take max-input bs) ≡ programOf bs
 unfolding programOf
 beyond-ignored bs =
-    elim (decLe (length bs) 32768) [ yes h ↦ rw (take-all 32768 bs h) | no h ↦ rw (words-same bs 32768 refl (omega arith)) ]
+    elim (decLe (length bs) max-input) [ yes h ↦ rw (take-all max-input bs h) | no h ↦ rw (words-same bs max-input refl (omega arith)) ]

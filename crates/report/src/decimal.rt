@@ -4,10 +4,11 @@ ghost use mathlib.Core.List.{[], _∷_, _++_};
 ghost use Prim.Native.Nat.{ℕ, _+_, _<_, _≤_};
 ghost use lib.ListN.{length};
 ghost use Rattle.meaning.specs.Program.{digitsOf, decimal};
+ghost use Rattle.report.specs.Room as Room;
 ghost use Rattle.report.specs.Text.{upTo};
 
 // No number of 64 bits has more digits.
-const MAX_DIGITS: usize = 20;
+pub const MAX_DIGITS: usize = 20;
 
 pub fn put(out: &mut [u8], at: usize, byte: u8) -> usize
     requires { ⌜ at < length (now out) ⌝ }
@@ -37,9 +38,9 @@ fn put_digits(out: &mut [u8], at: usize, n: u64, left: usize) -> usize
 }
 
 pub fn put_number(out: &mut [u8], at: usize, n: u64) -> usize
-    requires { ⌜ at + 20 ≤ length (now out) ⌝ }
+    requires { ⌜ at + Room.max-digits ≤ length (now out) ⌝ }
     ensures { λ r. ⌜ upTo r (now (out .exit)) ≡ upTo at (now (out .entry)) ++ decimal n ⌝ }
-    ensures { λ r. ⌜ r ≤ at + 20 ⌝ }
+    ensures { λ r. ⌜ r ≤ at + Room.max-digits ⌝ }
 {
     put_digits(out, at, n, MAX_DIGITS)
 }

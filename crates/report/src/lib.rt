@@ -1,37 +1,45 @@
 // All that the program prints, made by one function of the bytes of its input.
 mod decimal; // decimal numbers into a buffer
-pub mod fields; // the numbers of a line
 mod input; // bytes to words
-mod lines; // lines into a buffer
+pub mod lines; // lines into a buffer
 mod parts; // parts of lists of words
 mod runs; // the lines of a run
 
+use crate::decimal::MAX_DIGITS;
 use crate::lines::put_pass;
 use crate::lines::put_refusal;
 use crate::runs::put_run;
 use scr::Verdict;
+use word::MAX_EVENTS;
 ghost use mathlib.Core.Path.{_≡_};
 ghost use Prim.Native.Nat.{ℕ, _≤_};
 ghost use lib.ListN.{length, take, drop};
 ghost use Rattle.meaning.specs.Check.{checkOf};
 ghost use Rattle.meaning.specs.Program.{printed, programOf};
+ghost use Rattle.report.specs.Room as Room;
 ghost use Rattle.report.specs.Text.{upTo};
 ghost use Rattle.report.specs.Whole.{printedOf};
 
 // The words of the input that are looked at, and their bytes.
 const MAX_INPUT_WORDS: usize = 8192;
 
-pub const MAX_INPUT: usize = 32768;
+pub const MAX_INPUT: usize = MAX_INPUT_WORDS * 4;
 
-// The longest output is 4,098 lines: PASS, 4,096 events, REFUSE. A number has at most 20 digits, so a line of an event has at most 84 bytes
-// and each of the two others at most 154.
-pub const MAX_OUTPUT: usize = 344372;
+// Bytes that are enough, as specs/Room has them: for a blank and a number, for the line of a set or a refusal, and for the line of an event.
+const FIELD: usize = MAX_DIGITS + 1;
+
+const LINE: usize = 6 + 7 * FIELD + 1;
+
+const EVENT_LINE: usize = 4 * FIELD;
+
+// The longest output is PASS, a line for each event of a run, and REFUSE.
+pub const MAX_OUTPUT: usize = LINE + MAX_EVENTS * EVENT_LINE + LINE;
 
 // What is printed of a set and its events. "A set that check refuses is not run."
 fn put_set(out: &mut [u8], set: &[u32], events: &[u32]) -> usize
-    requires { ⌜ 344372 ≤ length (now out) ⌝ }
+    requires { ⌜ Room.output ≤ length (now out) ⌝ }
     ensures { λ r. ⌜ upTo r (now (out .exit)) ≡ printed (now (set .entry)) (now (events .entry)) (checkOf (now (set .entry))) ⌝ }
-    ensures { λ r. ⌜ r ≤ 344372 ⌝ }
+    ensures { λ r. ⌜ r ≤ Room.output ⌝ }
 {
     let verdict = scr::check(set);
     match verdict {
@@ -45,9 +53,9 @@ fn put_set(out: &mut [u8], set: &[u32], events: &[u32]) -> usize
 
 // "Words from the first of kind 11 on are events."
 fn put_words(out: &mut [u8], words: &[u32]) -> usize
-    requires { ⌜ 344372 ≤ length (now out) ⌝ }
+    requires { ⌜ Room.output ≤ length (now out) ⌝ }
     ensures { λ r. ⌜ upTo r (now (out .exit)) ≡ printedOf (now (words .entry)) ⌝ }
-    ensures { λ r. ⌜ r ≤ 344372 ⌝ }
+    ensures { λ r. ⌜ r ≤ Room.output ⌝ }
 {
     let k = parts::first_event(words);
     put_set(out, &words[0..k], &words[k..])
@@ -55,7 +63,7 @@ fn put_words(out: &mut [u8], words: &[u32]) -> usize
 
 // What the program prints, at the front of `out`; how many bytes.
 pub fn report(bytes: &[u8], out: &mut [u8]) -> usize
-    requires { ⌜ 344372 ≤ length (now out) ⌝ }
+    requires { ⌜ Room.output ≤ length (now out) ⌝ }
     ensures { λ r. ⌜ take r (now (out .exit)) ≡ programOf (now (bytes .entry)) ⌝ }
     ensures { λ r. ⌜ (r ≤ length (now (out .exit))) × (r ≡ length (take r (now (out .exit)))) ⌝ }
 {

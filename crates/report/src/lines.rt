@@ -2,11 +2,10 @@
 // Each function gives the place after what it put.
 use crate::decimal::put;
 use crate::decimal::put_number;
-use crate::fields;
-use crate::fields::Fields;
 use index::word_at;
 use scr::Counts;
 use scr::Refusal;
+use scr::telling::tell;
 use word::value;
 use word::variable;
 ghost use mathlib.Core.Path.{_≡_};
@@ -17,7 +16,8 @@ ghost use Rattle.meaning.specs.Reading.{word};
 ghost use Rattle.meaning.specs.Program as P;
 ghost use Rattle.scr.specs.Answers.{refusalSays};
 ghost use Rattle.report.specs.Text.{upTo};
-ghost use Rattle.report.specs.Lines.{AtMostSeven, listed, countsOf};
+ghost use Rattle.report.specs.Lines.{countsOf};
+ghost use Rattle.report.specs.Room as Room;
 
 fn put_name(out: &mut [u8], at: usize, name: &[u8]) -> usize
     requires { ⌜ at + length (now name) ≤ length (now out) ⌝ }
@@ -33,9 +33,9 @@ fn put_name(out: &mut [u8], at: usize, name: &[u8]) -> usize
 
 // A blank, and the number.
 fn put_field(out: &mut [u8], at: usize, n: u64) -> usize
-    requires { ⌜ at + 21 ≤ length (now out) ⌝ }
+    requires { ⌜ at + Room.field ≤ length (now out) ⌝ }
     ensures { λ r. ⌜ upTo r (now (out .exit)) ≡ upTo at (now (out .entry)) ++ (32 ∷ P.decimal n) ⌝ }
-    ensures { λ r. ⌜ r ≤ at + 21 ⌝ }
+    ensures { λ r. ⌜ r ≤ at + Room.field ⌝ }
 {
     let on = put(out, at, b' ');
     put_number(out, on, n)
@@ -43,9 +43,9 @@ fn put_field(out: &mut [u8], at: usize, n: u64) -> usize
 
 // A field for each number, and the line feed.
 fn put_fields(out: &mut [u8], at: usize, numbers: &[u64]) -> usize
-    requires { ⌜ at + (length (now numbers) * 21 + 1) ≤ length (now out) ⌝ }
+    requires { ⌜ at + (length (now numbers) * Room.field + 1) ≤ length (now out) ⌝ }
     ensures { λ r. ⌜ upTo r (now (out .exit)) ≡ upTo at (now (out .entry)) ++ P.fields (now (numbers .entry)) ⌝ }
-    ensures { λ r. ⌜ r ≤ at + (length (now (numbers .entry)) * 21 + 1) ⌝ }
+    ensures { λ r. ⌜ r ≤ at + (length (now (numbers .entry)) * Room.field + 1) ⌝ }
 {
     let mut on = at;
     for i in 0..numbers.len() {
@@ -54,40 +54,35 @@ fn put_fields(out: &mut [u8], at: usize, numbers: &[u64]) -> usize
     put(out, on, b'\n')
 }
 
-// As many fields as are listed.
-fn put_listed(out: &mut [u8], at: usize, f: Fields) -> usize
-    requires { ⌜ (at + 148 ≤ length (now out)) × AtMostSeven f ⌝ }
-    ensures { λ r. ⌜ upTo r (now (out .exit)) ≡ upTo at (now (out .entry)) ++ P.fields (listed f) ⌝ }
-    ensures { λ r. ⌜ r ≤ at + 148 ⌝ }
-{
-    let numbers = f.numbers;
-    let n = f.count;
-    put_fields(out, at, &numbers[0..n])
-}
-
 pub fn put_pass(out: &mut [u8], at: usize, c: Counts) -> usize
-    requires { ⌜ at + 154 ≤ length (now out) ⌝ }
+    requires { ⌜ at + Room.line ≤ length (now out) ⌝ }
     ensures { λ r. ⌜ upTo r (now (out .exit)) ≡ upTo at (now (out .entry)) ++ P.passLine (countsOf c) ⌝ }
-    ensures { λ r. ⌜ r ≤ at + 154 ⌝ }
+    ensures { λ r. ⌜ r ≤ at + Room.line ⌝ }
 {
+    let numbers = [c.states as u64, c.steps, c.assertions as u64];
     let on = put_name(out, at, b"PASS");
-    put_listed(out, on, fields::counts(c))
+    put_fields(out, on, &numbers)
 }
 
+// The number of the refusal, then what it carries.
 pub fn put_refusal(out: &mut [u8], at: usize, q: Refusal) -> usize
-    requires { ⌜ at + 154 ≤ length (now out) ⌝ }
+    requires { ⌜ at + Room.line ≤ length (now out) ⌝ }
     ensures { λ r. ⌜ upTo r (now (out .exit)) ≡ upTo at (now (out .entry)) ++ P.refuseLine (refusalSays q .0) (refusalSays q .1) ⌝ }
-    ensures { λ r. ⌜ r ≤ at + 154 ⌝ }
+    ensures { λ r. ⌜ r ≤ at + Room.line ⌝ }
 {
-    let on = put_name(out, at, b"REFUSE");
-    put_listed(out, on, fields::refusal(q))
+    let t = tell(q);
+    let carried = t.carried;
+    let n = t.count;
+    let named = put_name(out, at, b"REFUSE");
+    let on = put_field(out, named, t.number as u64);
+    put_fields(out, on, &carried[0..n])
 }
 
 // The line of event i, after which the state is s.
 fn put_event(out: &mut [u8], at: usize, events: &[u32], i: usize, s: u32) -> usize
-    requires { ⌜ at + 84 ≤ length (now out) ⌝ }
+    requires { ⌜ at + Room.event ≤ length (now out) ⌝ }
     ensures { λ r. ⌜ upTo r (now (out .exit)) ≡ upTo at (now (out .entry)) ++ P.eventLine i (word (now (events .entry)) i) s ⌝ }
-    ensures { λ r. ⌜ r ≤ at + 84 ⌝ }
+    ensures { λ r. ⌜ r ≤ at + Room.event ⌝ }
 {
     let w = word_at(events, i);
     let numbers = [variable(w) as u64, value(w) as u64, s as u64];
@@ -97,9 +92,9 @@ fn put_event(out: &mut [u8], at: usize, events: &[u32], i: usize, s: u32) -> usi
 
 // A line for each state reached.
 pub fn put_events(out: &mut [u8], at: usize, events: &[u32], states: &[u32]) -> usize
-    requires { ⌜ at + length (now states) * 84 ≤ length (now out) ⌝ }
+    requires { ⌜ at + length (now states) * Room.event ≤ length (now out) ⌝ }
     ensures { λ r. ⌜ upTo r (now (out .exit)) ≡ upTo at (now (out .entry)) ++ P.eventLines 0 (now (events .entry)) (now (states .entry)) ⌝ }
-    ensures { λ r. ⌜ r ≤ at + length (now (states .entry)) * 84 ⌝ }
+    ensures { λ r. ⌜ r ≤ at + length (now (states .entry)) * Room.event ⌝ }
 {
     let mut on = at;
     for i in 0..states.len() {

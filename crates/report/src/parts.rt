@@ -1,5 +1,6 @@
 // Parts of lists of words.
 use index::word_at;
+use word::INPUT_EVENT;
 use word::kind;
 ghost use mathlib.Core.Path.{_≡_};
 ghost use Prim.Native.Nat.{ℕ, _≤_};
@@ -10,7 +11,7 @@ ghost use Rattle.report.specs.Input.{isEvent};
 fn is_event(words: &[u32], i: usize) -> bool
     ensures { λ r. ⌜ r ≡ isEvent (now (words .entry)) i ⌝ }
 {
-    kind(word_at(words, i)) == 11
+    kind(word_at(words, i)) == INPUT_EVENT
 }
 
 // The place of the first word of kind 11, or the number of words.

@@ -13,6 +13,7 @@ ghost use Rattle.meaning.specs.Calls.{startOf};
 ghost use Rattle.meaning.specs.Program.{runFromStart};
 ghost use Rattle.scr.specs.Answers.{refusalSays, answerSays};
 ghost use Rattle.report.specs.Text.{upTo};
+ghost use Rattle.report.specs.Room as Room;
 ghost use Rattle.report.specs.Runs.{Passed, doneBefore, ranLines};
 
 // How many events were done before a refusal, in a run of a set that passes: there only an event word that is not enabled (16) ends a run
@@ -28,9 +29,9 @@ fn done_before(q: Refusal) -> usize
 
 // The lines of a run of a set that passes, by its answer and by the states that it wrote.
 fn put_ran(out: &mut [u8], at: usize, events: &[u32], states: &[u32], answer: Answer) -> usize
-    requires { ⌜ at + length (now states) * 84 + 154 ≤ length (now out) ⌝ }
+    requires { ⌜ at + length (now states) * Room.event + Room.line ≤ length (now out) ⌝ }
     ensures { λ r. ⌜ upTo r (now (out .exit)) ≡ upTo at (now (out .entry)) ++ ranLines (now (events .entry)) (now (states .entry)) (answerSays answer) ⌝ }
-    ensures { λ r. ⌜ r ≤ at + length (now (states .entry)) * 84 + 154 ⌝ }
+    ensures { λ r. ⌜ r ≤ at + length (now (states .entry)) * Room.event + Room.line ⌝ }
 {
     match answer {
         Answer::State(_) => put_events(out, at, events, front(states, events.len())),
@@ -41,11 +42,11 @@ fn put_ran(out: &mut [u8], at: usize, events: &[u32], states: &[u32], answer: An
     }
 }
 
-// The run from the initial state. The longest has 4,096 lines of events and one of a refusal.
+// The run from the initial state.
 pub fn put_run(out: &mut [u8], at: usize, set: &[u32], events: &[u32]) -> usize
-    requires { ⌜ (at + 344218 ≤ length (now out)) × Passed (now set) ⌝ }
+    requires { ⌜ (at + Room.run ≤ length (now out)) × Passed (now set) ⌝ }
     ensures { λ r. ⌜ upTo r (now (out .exit)) ≡ upTo at (now (out .entry)) ++ runFromStart (now (set .entry)) (now (events .entry)) (startOf (now (set .entry))) ⌝ }
-    ensures { λ r. ⌜ r ≤ at + 344218 ⌝ }
+    ensures { λ r. ⌜ r ≤ at + Room.run ⌝ }
 {
     let initial = scr::start(set);
     match initial {

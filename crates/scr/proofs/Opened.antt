@@ -6,9 +6,10 @@ use Rattle.set.specs.declared.SetRead as R
 use Rattle.set.specs.declared.SetRead.the-variants as RV
 use Rattle.set.specs.ReadSet.{SetAs}
 use Rattle.scr.specs.declared.Refusal.{Refusal}
-use Rattle.scr.specs.declared.opening.Opened.the-variants as OV
+use Rattle.scr.specs.declared.opening.Reading.the-variants as Readings
+use Rattle.scr.specs.declared.opening.Opened.{Opened}
 use Rattle.scr.specs.Answers.{refusalSays}
-use Rattle.scr.specs.Opened.{OpenedAs}
+use Rattle.scr.specs.Opened.{ReadingAs, OpenedAs}
 use Rattle.scr.proofs.Refusing.{refused-says}
 
 module _ (ws ps us os : List ℕ) (r : R.SetRead) (h : SetAs ws r ps us os) where
@@ -20,14 +21,16 @@ module _ (ws ps us os : List ℕ) (r : R.SetRead) (h : SetAs ws r ps us os) wher
   unfolding SetAs
   reading-high k x e = let p = rw e at h in p .2
 
-  pub open-refused : (q : Refusal) (k x : ℕ) → r ≡ RV.Refused k x → refusalSays q ≡ (k, x ∷ []) → OpenedAs ws (OV.Refused q) ps us os
-  unfolding SetAs OpenedAs
-  open-refused q k x e eq = let p = rw e at h in p .0 ∙ sym (refused-says q k (x ∷ []) eq)
+  module _ (o : Opened) (q : Refusal) (eo : o .reading ≡ Readings.Refused q) where
+    pub open-refused : (k x : ℕ) → r ≡ RV.Refused k x → refusalSays q ≡ (k, x ∷ []) → OpenedAs ws o
+    unfolding SetAs OpenedAs ReadingAs
+    open-refused k x e eq = let p = rw e at h in rw eo (p .0 ∙ sym (refused-says q k (x ∷ []) eq))
 
-  pub open-cycle : (q : Refusal) (v m : ℕ) → r ≡ RV.Cycle v m → refusalSays q ≡ (9, v ∷ m ∷ []) → OpenedAs ws (OV.Refused q) ps us os
-  unfolding SetAs OpenedAs
-  open-cycle q v m e eq = let p = rw e at h in p ∙ sym (refused-says q 9 (v ∷ m ∷ []) eq)
+    pub open-cycle : (v m : ℕ) → r ≡ RV.Cycle v m → refusalSays q ≡ (9, v ∷ m ∷ []) → OpenedAs ws o
+    unfolding SetAs OpenedAs ReadingAs
+    open-cycle v m e eq = let p = rw e at h in rw eo (p ∙ sym (refused-says q 9 (v ∷ m ∷ []) eq))
 
-  pub open-set : (n a c : ℕ) → r ≡ RV.Set n a c → OpenedAs ws (OV.Set n a c) ps us os
-  unfolding SetAs OpenedAs
-  open-set n a c e = rw e at h
+  pub open-set : (n a c : ℕ) → r ≡ RV.Set n a c
+      → OpenedAs ws (record { reading = Readings.Set; index = record { variables = n; states = c; assertions = a; places = ps; weights = us; order = os } })
+  unfolding SetAs OpenedAs ReadingAs
+  open-set n a c e = let p = rw e at h in record { set = p .0; read = p .1 }

@@ -1,18 +1,24 @@
 -- Laws of the functions that make refusals, one for each way out.
-use mathlib.Core.Path.{_≡_, refl, sym, ap, _∙_}
+use mathlib.Core.Path.{_≡_}
 use mathlib.Core.List.{List, [], _∷_}
 use Prim.Native.Nat.{ℕ, suc, _≤_}
 use native.Mathlib.Omega.{arith}
 use Rattle.word.specs.Fields as W
-use Rattle.meaning.specs.Answers.{Outcome, ok, refuse}
-use Rattle.meaning.specs.Steps.{Input, inputOf}
+use Rattle.meaning.specs.Answers.{Outcome, refuse}
+use Rattle.meaning.specs.Steps.{inputOf}
 use Rattle.simulator.specs.declared.Stepped as S
 use Rattle.simulator.specs.declared.Stepped.the-variants as SV
 use Rattle.simulator.specs.StepIndex.{steppedSays}
 use Rattle.scr.specs.declared.Refusal.{Refusal}
 use Rattle.scr.specs.declared.Refusal.the-variants as R
 use Rattle.scr.specs.declared.Answer.the-variants as A
+use Rattle.scr.specs.declared.telling.Told.{Told}
 use Rattle.scr.specs.Answers.{refusalSays, refused, answerSays}
+use Rattle.scr.specs.Telling.{Tells}
+
+-- ---- a refusal as numbers, its case being known
+pub told-case : (t : Told) (q q′ : Refusal) → q ≡ q′ → Tells t (refusalSays q′) → Tells t (refusalSays q)
+told-case t q q′ e h = rw e h
 
 -- ---- 1 to 8
 next-up : (k m : ℕ) → m ≤ k → (k ≡ m → ⊥) → suc m ≤ k

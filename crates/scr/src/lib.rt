@@ -5,13 +5,13 @@ mod calls; // what is done once the set has been read
 mod opening; // reading the set
 mod refusals; // making refusals
 mod runs; // a run of a set that reads
+pub mod telling; // a refusal as numbers
 mod verdicts; // the verdict of a set that reads
 
-use crate::opening::Opened;
+use crate::opening::Reading;
 use crate::opening::open;
 use part::part_end;
 use part::part_start;
-use state::initial_state;
 use verdicts::verdict;
 use word::Value;
 ghost use mathlib.Core.Path.{_≡_};
@@ -24,7 +24,7 @@ ghost use Rattle.meaning.specs.Passes.{Refused};
 ghost use Rattle.meaning.specs.Demand1.{StartRefused, StepRefused, ValuesRefused, AnswersOrRefuses, RunAnswers, RowsAnswers};
 ghost use Rattle.meaning.specs.Demand3.{Demand3};
 ghost use Rattle.meaning.specs.Check.{checkOf};
-ghost use Rattle.scr.specs.Answers.{refusalSays, answerSays, verdictSays, countSays, countOf};
+ghost use Rattle.scr.specs.Answers.{answerSays, verdictSays, countSays, countOf};
 ghost use Rattle.scr.specs.Promises.{Demand2, StepsExactly};
 
 // ---- answers
@@ -94,31 +94,6 @@ pub enum Refusal {
     Room(usize),
 }
 
-// The number of a refusal, for those that answer by numbers.
-pub fn refusal_number(r: Refusal) -> u32
-    ensures { λ n. ⌜ n ≡ refusalSays r .0 ⌝ }
-{
-    match r {
-        Refusal::Length(_) => 1,
-        Refusal::Kind(_) => 2,
-        Refusal::Range(_) => 3,
-        Refusal::Limit(_) => 4,
-        Refusal::Fit(_) => 5,
-        Refusal::NoTable(_) => 6,
-        Refusal::InitialValue(_) => 7,
-        Refusal::States(_) => 8,
-        Refusal::Cycle(_) => 9,
-        Refusal::Gap(_) => 10,
-        Refusal::Overlap(_) => 11,
-        Refusal::StepOverlap(_) => 12,
-        Refusal::FalseInitially(_) => 13,
-        Refusal::Broken(_) => 14,
-        Refusal::NoState(_) => 15,
-        Refusal::NotEnabled(_) => 16,
-        Refusal::Room(_) => 17,
-    }
-}
-
 // A state, or the refusal.
 pub enum Answer {
     State(u32),
@@ -151,13 +126,11 @@ pub fn start(words: &[u32]) -> Answer
     ensures { λ r. ⌜ answerSays r ≡ startOf (now (words .entry)) ⌝ }
     ensures { λ r. ⌜ AnswersOrRefuses (answerSays r) (StartRefused (now (words .entry))) ⌝ }
 {
-    let mut places = [0usize; 32];
-    let mut weights = [0u32; 32];
-    let mut order = [0usize; 32];
-    let o = open(words, &mut places, &mut weights, &mut order);
-    match o {
-        Opened::Refused(q) => Answer::Refused(q),
-        Opened::Set(n, _, _) => Answer::State(initial_state(words, &places, &weights, n)),
+    let o = open(words);
+    let reading = o.reading;
+    match reading {
+        Reading::Refused(q) => Answer::Refused(q),
+        Reading::Set => calls::start(words, o.index),
     }
 }
 
@@ -167,13 +140,11 @@ pub fn check(words: &[u32]) -> Verdict
     ensures { λ r. ⌜ AnswersOrRefuses (verdictSays r) (Refused (now (words .entry))) ⌝ }
     ensures { λ r. ⌜ Demand2 (now (words .entry)) r ⌝ }
 {
-    let mut places = [0usize; 32];
-    let mut weights = [0u32; 32];
-    let mut order = [0usize; 32];
-    let o = open(words, &mut places, &mut weights, &mut order);
-    match o {
-        Opened::Refused(q) => Verdict::Refused(q),
-        Opened::Set(n, a, c) => verdict(words, &places, &weights, &order[0..n], n, a, c),
+    let o = open(words);
+    let reading = o.reading;
+    match reading {
+        Reading::Refused(q) => Verdict::Refused(q),
+        Reading::Set => verdict(words, o.index),
     }
 }
 
@@ -184,22 +155,11 @@ pub fn step(words: &[u32], state: u32, event: u32) -> Answer
     ensures { λ r. ⌜ AnswersOrRefuses (answerSays r) (StepRefused (now (words .entry)) state event) ⌝ }
     ensures { λ r. ⌜ StepsExactly (now (words .entry)) state event r ⌝ }
 {
-    let mut places = [0usize; 32];
-    let mut weights = [0u32; 32];
-    let mut order = [0usize; 32];
-    let o = open(words, &mut places, &mut weights, &mut order);
-    match o {
-        Opened::Refused(q) => Answer::Refused(q),
-        Opened::Set(n, _, c) => calls::step(
-            words,
-            &places,
-            &weights,
-            &order[0..n],
-            n,
-            c,
-            state,
-            event,
-        ),
+    let o = open(words);
+    let reading = o.reading;
+    match reading {
+        Reading::Refused(q) => Answer::Refused(q),
+        Reading::Set => calls::step(words, o.index, state, event),
     }
 }
 
@@ -211,24 +171,11 @@ pub fn run(words: &[u32], state: u32, events: &[u32], trace: &mut [u32], place: 
     ensures { λ r. ⌜ RunAnswers (now (words .entry)) state (now (events .entry)) (now (trace .entry)) place (answerSays r) (now (trace .exit)) ⌝ }
     ensures { λ r. ⌜ Demand3 (now (words .entry)) state (now (events .entry)) (now (trace .entry)) place (answerSays r) (now (trace .exit)) ⌝ }
 {
-    let mut places = [0usize; 32];
-    let mut weights = [0u32; 32];
-    let mut order = [0usize; 32];
-    let o = open(words, &mut places, &mut weights, &mut order);
-    match o {
-        Opened::Refused(q) => Answer::Refused(q),
-        Opened::Set(n, _, c) => runs::run(
-            words,
-            &places,
-            &weights,
-            &order[0..n],
-            n,
-            c,
-            state,
-            events,
-            &mut trace[..],
-            place,
-        ),
+    let o = open(words);
+    let reading = o.reading;
+    match reading {
+        Reading::Refused(q) => Answer::Refused(q),
+        Reading::Set => runs::run(words, o.index, state, events, &mut trace[..], place),
     }
 }
 
@@ -238,22 +185,11 @@ pub fn values(words: &[u32], state: u32, out: &mut [Value]) -> Count
     ensures { λ r. ⌜ now (out .exit) ≡ lentValues (valuesOf (now (words .entry)) state (length (now (out .entry)))) (now (out .entry)) ⌝ }
     ensures { λ r. ⌜ AnswersOrRefuses (countSays r) (ValuesRefused (now (words .entry)) state (length (now (out .entry)))) ⌝ }
 {
-    let mut places = [0usize; 32];
-    let mut weights = [0u32; 32];
-    let mut order = [0usize; 32];
-    let o = open(words, &mut places, &mut weights, &mut order);
-    match o {
-        Opened::Refused(q) => Count::Refused(q),
-        Opened::Set(n, _, c) => calls::values(
-            words,
-            &places,
-            &weights,
-            &order[0..n],
-            n,
-            c,
-            state,
-            &mut out[..],
-        ),
+    let o = open(words);
+    let reading = o.reading;
+    match reading {
+        Reading::Refused(q) => Count::Refused(q),
+        Reading::Set => calls::values(words, o.index, state, &mut out[..]),
     }
 }
 

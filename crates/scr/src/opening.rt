@@ -3,26 +3,76 @@ use crate::Refusal;
 use crate::refusals;
 use set::SetRead;
 use set::read_set;
+use word::MAX_VARIABLES;
 ghost use mathlib.Core.Path.{_≡_};
-ghost use lib.ListN.{length};
-ghost use Rattle.reader.specs.Typed.{noPlaces, noWeights};
 ghost use Rattle.scr.specs.Opened.{OpenedAs};
 
-// The number of variables, the place of the first assertion and the number of states; or the refusal. The index is lent beside it: an
-// enum that holds arrays would have to be proved by hand.
-pub enum Opened {
-    Set(usize, usize, u32),
+// Elements of the list of places.
+const PLACES: usize = MAX_VARIABLES;
+
+// The index of a set: how many variables and states it has, where its first assertion stands, and by variable the place of its table, its
+// weight in a state's number, and the dependency order.
+pub struct Index {
+    pub variables: usize,
+    pub states: u32,
+    pub assertions: usize,
+    pub places: [usize; PLACES],
+    pub weights: [u32; MAX_VARIABLES],
+    pub order: [usize; MAX_VARIABLES],
+}
+
+// Does the set read? The index stands beside it: an enum that holds arrays would have to be proved by hand.
+pub enum Reading {
+    Set,
     Refused(Refusal),
 }
 
-pub fn open(words: &[u32], places: &mut [usize], weights: &mut [u32], order: &mut [usize]) -> Opened
-    requires { ⌜ (now places ≡ noPlaces) × (now weights ≡ noWeights) × (length (now order) ≡ 32) ⌝ }
-    ensures { λ r. ⌜ OpenedAs (now (words .entry)) r (now (places .exit)) (now (weights .exit)) (now (order .exit)) ⌝ }
+pub struct Opened {
+    pub reading: Reading,
+    pub index: Index,
+}
+
+// No index.
+fn refused(q: Refusal) -> Opened
+    ensures { λ r. ⌜ r .reading ≡ Reading.Refused q ⌝ }
 {
-    let r = read_set(words, &mut places[..], &mut weights[..], &mut order[..]);
+    let index = Index {
+        variables: 0,
+        states: 0,
+        assertions: 0,
+        places: [0; PLACES],
+        weights: [0; MAX_VARIABLES],
+        order: [0; MAX_VARIABLES],
+    };
+    Opened {
+        reading: Reading::Refused(q),
+        index: index,
+    }
+}
+
+pub fn open(words: &[u32]) -> Opened
+    ensures { λ r. ⌜ OpenedAs (now (words .entry)) r ⌝ }
+{
+    let mut places = [0usize; PLACES];
+    let mut weights = [0u32; MAX_VARIABLES];
+    let mut order = [0usize; MAX_VARIABLES];
+    let r = read_set(words, &mut places, &mut weights, &mut order);
     match r {
-        SetRead::Refused(k, x) => Opened::Refused(refusals::reading(k, x)),
-        SetRead::Cycle(v, m) => Opened::Refused(refusals::cycle(v, m)),
-        SetRead::Set(n, a, c) => Opened::Set(n, a, c),
+        SetRead::Refused(k, x) => refused(refusals::reading(k, x)),
+        SetRead::Cycle(v, m) => refused(refusals::cycle(v, m)),
+        SetRead::Set(n, a, c) => {
+            let index = Index {
+                variables: n,
+                states: c,
+                assertions: a,
+                places: places,
+                weights: weights,
+                order: order,
+            };
+            Opened {
+                reading: Reading::Set,
+                index: index,
+            }
+        }
     }
 }

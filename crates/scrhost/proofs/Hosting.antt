@@ -1,15 +1,15 @@
 -- Laws of the host's functions, one for each way out.
-use mathlib.Core.Path.{_≡_, refl, sym, ap, _∙_}
+use mathlib.Core.Path.{_≡_, refl, sym, _∙_}
 use mathlib.Core.List.{List, [], _∷_}
 use mathlib.Core.Bool.{Bool, true, false, not, _&&_}
-use Prim.Native.Nat.{ℕ, zero, suc, _+_, _*_, _/_, _%_, _^_, _<_, _≤_}
+use Prim.Native.Nat.{ℕ, _+_, _/_, _%_, _<_, _≤_}
 use native.Mathlib.Omega.{arith}
 use lib.ListN.{length, take}
 use lib.Seq.{length-take-le}
 use lib.Dec.{eqb, leb}
 use borrow.Author.Tests.{eqb-true, leb-true, leb-false, le-leb, lt-leb, not-true, not-false}
 use Rattle.word.specs.Limits as Max
-use Rattle.meaning.specs.Answers.{Outcome, ok, refuse, _>>=_, demand}
+use Rattle.meaning.specs.Answers.{Outcome, ok, refuse, _>>=_}
 use Rattle.meaning.specs.Searches.{within}
 use Rattle.meaning.specs.Syntax.{TableSet}
 use Rattle.meaning.specs.Reading.{readWords}
@@ -19,60 +19,41 @@ use Rattle.meaning.specs.Steps.{stepOf}
 use Rattle.meaning.specs.Host.{wordsOfBytes, hostWords, passed, stepped, hostCheckOf, hostStepOf}
 use Rattle.theory.specs.Tests.{true-not-false, and-true}
 use Rattle.scr.specs.declared.Refusal.{Refusal}
-use Rattle.scr.specs.declared.Refusal.the-variants as R
 use Rattle.scr.specs.declared.Verdict.{Verdict}
 use Rattle.scr.specs.declared.Verdict.the-variants as Verdicts
 use Rattle.scr.specs.declared.Answer.{Answer}
 use Rattle.scr.specs.declared.Answer.the-variants as A
+use Rattle.scr.specs.declared.telling.Told.{Told}
 use Rattle.scr.specs.Answers.{refusalSays, refused, answerSays, verdictSays}
+use Rattle.scr.specs.Telling.{Tells}
+use Rattle.scrhost.specs.Limits.{max-bytes}
 use Rattle.scrhost.proofs.Copying.{length-words}
 
 -- ---- answers as numbers
-few-refusals : (q : Refusal) → refusalSays q .0 ≤ 17
-unfolding refusalSays
-few-refusals (R.Length n) = omega arith
-few-refusals (R.Kind n) = omega arith
-few-refusals (R.Range n) = omega arith
-few-refusals (R.Limit n) = omega arith
-few-refusals (R.Fit n) = omega arith
-few-refusals (R.NoTable n) = omega arith
-few-refusals (R.InitialValue n) = omega arith
-few-refusals (R.States n) = omega arith
-few-refusals (R.Cycle c) = omega arith
-few-refusals (R.Gap g) = omega arith
-few-refusals (R.Overlap o) = omega arith
-few-refusals (R.StepOverlap o) = omega arith
-few-refusals (R.FalseInitially n) = omega arith
-few-refusals (R.Broken b) = omega arith
-few-refusals (R.NoState n) = omega arith
-few-refusals (R.NotEnabled n) = omega arith
-few-refusals (R.Room n) = omega arith
-
-pub number-few : (q : Refusal) (n : ℕ) → n ≡ refusalSays q .0 → n ≤ 17
-number-few q n e = omega (arith, few-refusals q)
-
 pub check-passes : (v : Verdict) (c : _) → v ≡ Verdicts.Pass c → 0 ≡ passed (verdictSays v)
 unfolding passed verdictSays
 check-passes v c e = rw e
 
-pub check-refuses : (v : Verdict) (q : Refusal) (n : ℕ) → v ≡ Verdicts.Refused q → n ≡ refusalSays q .0 → n ≡ passed (verdictSays v)
+pub check-refuses : (v : Verdict) (q : Refusal) (t : Told) → v ≡ Verdicts.Refused q → Tells t (refusalSays q)
+    → t .number ≡ passed (verdictSays v)
 unfolding passed verdictSays refused
-check-refuses v q n e en = rw e en
+check-refuses v q t e h = rw e (h .number)
 
 pub step-gives : (a : Answer) (s : ℕ) → a ≡ A.State s → s ≡ stepped (answerSays a)
 unfolding stepped answerSays
 step-gives a s e = rw e
 
-pub step-refuses : (a : Answer) (q : Refusal) (n : ℕ) → a ≡ A.Refused q → n ≡ refusalSays q .0 → 2147483648 + n ≡ stepped (answerSays a)
+pub step-refuses : (a : Answer) (q : Refusal) (t : Told) → a ≡ A.Refused q → Tells t (refusalSays q)
+    → 2147483648 + t .number ≡ stepped (answerSays a)
 unfolding stepped answerSays refused
-step-refuses a q n e en = rw (e, en)
+step-refuses a q t e h = rw (e, h .number)
 
 -- ---- bytes that are no words of a set
-long-refused : (ws : List ℕ) → 4096 < length ws → readSet ws ≡ refuse 1 (length ws ∷ [])
+long-refused : (ws : List ℕ) → Max.max-words < length ws → readSet ws ≡ refuse 1 (length ws ∷ [])
 unfolding readSet readTyped readWords within
 long-refused ws h =
     let h′ : 1 ≤ length ws = omega arith in
-    simp (lt-leb (length ws) 4096 h, le-leb 1 (length ws) h′)
+    simp (lt-leb (length ws) Max.max-words h, le-leb 1 (length ws) h′)
 
 broken-words : (bs : List ℕ) → eqb (length bs % 4) 0 ≡ false → hostWords bs ≡ refuse 1 (length bs ∷ [])
 unfolding hostWords
@@ -82,20 +63,20 @@ whole-words : (bs : List ℕ) → eqb (length bs % 4) 0 ≡ true → hostWords b
 unfolding hostWords
 whole-words bs e = rw e
 
-long-words : (bs : List ℕ) → eqb (length bs % 4) 0 ≡ true → leb (length bs) 16384 ≡ false → 4096 < length (wordsOfBytes bs (length bs / 4) 0)
+long-words : (bs : List ℕ) → eqb (length bs % 4) 0 ≡ true → leb (length bs) max-bytes ≡ false → Max.max-words < length (wordsOfBytes bs (length bs / 4) 0)
 long-words bs e f =
     let h : length bs % 4 ≡ 0 = eqb-true (length bs % 4) 0 e in
-    let k : 16384 < length bs = leb-false (length bs) 16384 f in
+    let k : max-bytes < length bs = leb-false (length bs) max-bytes f in
     rw (length-words bs (length bs / 4) 0) (omega arith)
 
 -- ---- by what fits says
-module _ (bs : List ℕ) (b : Bool) (eb : b ≡ (eqb (length bs % 4) 0 && leb (length bs) 16384)) where
+module _ (bs : List ℕ) (b : Bool) (eb : b ≡ (eqb (length bs % 4) 0 && leb (length bs) max-bytes)) where
   -- what is made of refusal 1 is made of every call that begins with the reading
   unfit : {A : Type 0} (f : TableSet → Outcome A) (g : Outcome A → ℕ) (k : ℕ) → ((xs : List ℕ) → k ≡ g (refuse 1 xs)) → not b ≡ true
       → k ≡ g (hostWords bs >>= λ ws. readSet ws >>= f)
-  unfit f g k h n = go (eqb (length bs % 4) 0) (leb (length bs) 16384) refl refl (sym eb ∙ not-true b n)
+  unfit f g k h n = go (eqb (length bs % 4) 0) (leb (length bs) max-bytes) refl refl (sym eb ∙ not-true b n)
     where
-      go : (x y : Bool) → eqb (length bs % 4) 0 ≡ x → leb (length bs) 16384 ≡ y → (x && y) ≡ false
+      go : (x y : Bool) → eqb (length bs % 4) 0 ≡ x → leb (length bs) max-bytes ≡ y → (x && y) ≡ false
           → k ≡ g (hostWords bs >>= λ ws. readSet ws >>= f)
       go true true ex ey e = absurd (true-not-false refl e)
       go true false ex ey e = rw (whole-words bs ex, long-refused _ (long-words bs ex ey)) (h _)
@@ -110,21 +91,21 @@ module _ (bs : List ℕ) (b : Bool) (eb : b ≡ (eqb (length bs % 4) 0 && leb (l
   step-unfit s w n = unfit _ stepped 2147483649 (λ xs. refl) n
 
   module _ (n : not b ≡ false) where
-    fit : (eqb (length bs % 4) 0 ≡ true) × (leb (length bs) 16384 ≡ true)
-    fit = and-true (eqb (length bs % 4) 0) (leb (length bs) 16384) (sym eb ∙ not-false b n)
+    fit : (eqb (length bs % 4) 0 ≡ true) × (leb (length bs) max-bytes ≡ true)
+    fit = and-true (eqb (length bs % 4) 0) (leb (length bs) max-bytes) (sym eb ∙ not-false b n)
 
     whole : hostWords bs ≡ ok (wordsOfBytes bs (length bs / 4) 0)
     whole = whole-words bs (fit .0)
 
-    few : length bs ≤ 16384
-    few = leb-true (length bs) 16384 (fit .1)
+    few : length bs ≤ max-bytes
+    few = leb-true (length bs) max-bytes (fit .1)
 
     -- there is room for the words
-    pub room : (m : ℕ) → m ≡ 4096 → length bs / 4 ≤ m
+    pub room : (m : ℕ) → m ≡ Max.max-words → length bs / 4 ≤ m
     room m e = omega (arith, few)
 
     -- the words that are lent are as many as the bytes have
-    pub lent : (xs : List ℕ) → length xs ≡ 4096 → length bs / 4 ≡ length (take (length bs / 4) xs)
+    pub lent : (xs : List ℕ) → length xs ≡ Max.max-words → length bs / 4 ≡ length (take (length bs / 4) xs)
     lent xs e = sym (length-take-le (length bs / 4) xs (omega (arith, few)))
 
     module _ (ws : List ℕ) (r : ℕ) (e : take (length bs / 4) ws ≡ wordsOfBytes bs (length bs / 4) 0) where

@@ -7,6 +7,7 @@ use numbers::check_number;
 use numbers::step_number;
 use scr::check;
 use scr::step;
+use word::MAX_WORDS;
 use words::copy_words;
 use words::fits;
 ghost use mathlib.Core.Path.{_≡_};
@@ -24,7 +25,7 @@ pub extern "C" fn scr_check(bytes: &[u8]) -> u32
         return LENGTH;
     }
     let n = bytes.len() / 4;
-    let mut words = [0u32; 4096];
+    let mut words = [0u32; MAX_WORDS];
     copy_words(bytes, &mut words, n);
     check_number(check(&words[..n]))
 }
@@ -38,7 +39,7 @@ pub extern "C" fn scr_step(bytes: &[u8], state: u32, event: u32) -> u32
         return REFUSED + LENGTH;
     }
     let n = bytes.len() / 4;
-    let mut words = [0u32; 4096];
+    let mut words = [0u32; MAX_WORDS];
     copy_words(bytes, &mut words, n);
     step_number(step(&words[..n], state, event))
 }

@@ -1,7 +1,7 @@
 // Answers as the host's numbers.
 use scr::Answer;
 use scr::Verdict;
-use scr::refusal_number;
+use scr::telling::tell;
 ghost use mathlib.Core.Path.{_≡_};
 ghost use Rattle.meaning.specs.Host.{passed, stepped};
 ghost use Rattle.scr.specs.Answers.{answerSays, verdictSays};
@@ -15,7 +15,7 @@ pub fn check_number(v: Verdict) -> u32
 {
     match v {
         Verdict::Pass(_) => 0,
-        Verdict::Refused(q) => refusal_number(q),
+        Verdict::Refused(q) => tell(q).number,
     }
 }
 
@@ -25,6 +25,6 @@ pub fn step_number(a: Answer) -> u32
 {
     match a {
         Answer::State(s) => s,
-        Answer::Refused(q) => REFUSED + refusal_number(q),
+        Answer::Refused(q) => REFUSED + tell(q).number,
     }
 }

@@ -1,24 +1,18 @@
 // The words of the input, lowest byte first. Input cut short counts as zeros.
 use crate::least;
-ghost use Prim.Native.Nat.{_<_};
+use word::of_bytes;
 
-fn byte_at(bytes: &[u8], at: usize) -> u32
-    ensures { λ r. ⌜ r < 256 ⌝ }
-{
-    if at < bytes.len() { wide(bytes[at]) } else { 0 }
-}
-
-fn wide(x: u8) -> u32
-    ensures { λ r. ⌜ r < 256 ⌝ }
-{
-    x as u32
+fn byte_at(bytes: &[u8], at: usize) -> u8 {
+    if at < bytes.len() { bytes[at] } else { 0 }
 }
 
 fn word_of(bytes: &[u8]) -> u32 {
-    byte_at(bytes, 0)
-        + byte_at(bytes, 1) * 256
-        + byte_at(bytes, 2) * 65536
-        + byte_at(bytes, 3) * 16777216
+    of_bytes(
+        byte_at(bytes, 0),
+        byte_at(bytes, 1),
+        byte_at(bytes, 2),
+        byte_at(bytes, 3),
+    )
 }
 
 fn word_in(bytes: &[u8], i: usize) -> u32 {

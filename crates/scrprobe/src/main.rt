@@ -19,14 +19,22 @@ use index::word_at;
 use libc::STDIN_FILENO;
 use libc::STDOUT_FILENO;
 ghost use Prim.Native.Nat.{_≤_};
+ghost use lib.ListN.{length};
+ghost use Rattle.report.specs.Room as Room;
 
-// The longest input: the call, n, 5,000 words, and for a run three numbers and 5,000 events.
-const WORDS: usize = 10005;
+// The longest set and list of events that are taken: longer than any that a set or a run has.
+const MAX_TAKEN: usize = 5000;
 
-const BYTES: usize = 40020;
+// The longest lists that are lent to a run and to values.
+const MAX_STATES_LENT: usize = 8000;
 
-// The longest output: a line, and for a run 8,000 numbers of at most 10 digits, each with a blank or a line feed after it.
-const ROOM: usize = 88200;
+const MAX_VALUES_LENT: usize = 300;
+
+// The longest input: the call, n, a set, and for a run three numbers and its events.
+const WORDS: usize = 2 + MAX_TAKEN + 3 + MAX_TAKEN;
+
+// The longest output: a line, and for a run the lent list, numbers of at most 10 digits, each with a blank or a line feed after it.
+const ROOM: usize = 200 + MAX_STATES_LENT * 11;
 
 fn least(a: usize, b: usize) -> usize
     ensures { λ r. ⌜ (r ≤ a) × (r ≤ b) ⌝ }
@@ -35,8 +43,10 @@ fn least(a: usize, b: usize) -> usize
 }
 
 // One call, its effect put into a buffer; the place after it. The first `end` words were read, those after them are zeros.
-fn probe(words: &[u32], end: usize, out: &mut [u8]) -> usize {
-    let n = least(word_at(words, 1) as usize, 5000);
+fn probe(words: &[u32], end: usize, out: &mut [u8]) -> usize
+    requires { ⌜ Room.line ≤ length (now out) ⌝ }
+{
+    let n = least(word_at(words, 1) as usize, MAX_TAKEN);
     let set = input::words_from(words, 2, n);
     let first = word_at(words, n + 2);
     let second = word_at(words, n + 3);
@@ -45,7 +55,7 @@ fn probe(words: &[u32], end: usize, out: &mut [u8]) -> usize {
         2 => calls::step(set, first, second, out),
         3 => {
             let room = word_at(words, n + 4) as usize;
-            let events = input::words_to(words, n + 5, end, 5000);
+            let events = input::words_to(words, n + 5, end, MAX_TAKEN);
             calls::run(set, first, second as usize, room, events, out)
         }
         4 => calls::values(set, first, second as usize, out),
@@ -56,7 +66,7 @@ fn probe(words: &[u32], end: usize, out: &mut [u8]) -> usize {
 }
 
 fn main() {
-    let mut bytes = [0u8; BYTES];
+    let mut bytes = [0u8; WORDS * 4];
     let n = io::read_full(STDIN_FILENO, &mut bytes);
     let mut words = [0u32; WORDS];
     input::fill(&bytes[..n], &mut words);

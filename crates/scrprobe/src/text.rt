@@ -1,6 +1,4 @@
 // Text put into a buffer from a place on. Each function gives the place after what it put; past the end of the buffer nothing is put.
-use crate::least;
-use report::fields::Fields;
 use word::Value;
 
 fn put(out: &mut [u8], at: usize, byte: u8) -> usize {
@@ -31,21 +29,13 @@ fn put_field(out: &mut [u8], at: usize, n: u64) -> usize {
     put_number(out, on, n)
 }
 
-fn put_fields(out: &mut [u8], at: usize, numbers: &[u64], count: usize) -> usize {
-    let mut on = at;
-    let n = least(count, numbers.len());
-    for i in 0..n {
+// A name, its numbers, and the line feed.
+pub fn put_line(out: &mut [u8], name: &[u8], numbers: &[u64]) -> usize {
+    let mut on = put_bytes(out, 0, name);
+    for i in 0..numbers.len() {
         on = put_field(out, on, numbers[i]);
     }
-    on
-}
-
-// A name and its fields.
-pub fn put_line(out: &mut [u8], at: usize, name: &[u8], fields: Fields) -> usize {
-    let numbers = fields.numbers;
-    let named = put_bytes(out, at, name);
-    let ended = put_fields(out, named, &numbers, fields.count);
-    put(out, ended, b'\n')
+    put(out, on, b'\n')
 }
 
 // The element i of a list: no blank before the first.

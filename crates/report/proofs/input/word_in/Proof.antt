@@ -4,7 +4,7 @@ use Rattle.report.proofs.input.word_in.Statement.{statement}
 use Rattle.report.proofs.input.word_in.Tie as tie
 use Rattle.report.proofs.input.word_in.Reads as reads
 use Rattle.report.proofs.input.word_in.Lts as lts
-use Rattle.report.proofs.input.wide.Reads as wide-reads
+use Rattle.word.proofs.of_bytes.Reads as of-bytes-reads
 
 mul-at : tie.Need-mul-at
 mul-at c = search needs
@@ -15,56 +15,29 @@ add-if1 c = search needs
 returns : tie.Need-returns
 returns c = search word-broken
 
-shared-slice-read-wide : tie.Need-shared-slice-read-wide
-shared-slice-read-wide c = search needs
+shared-slice-read-of-bytes : tie.Need-shared-slice-read-of-bytes
+shared-slice-read-of-bytes c = search needs
 
-wide-requires : tie.Need-wide-requires
-wide-requires c κs = search needs
+add-of-bytes : tie.Need-add-of-bytes
+add-of-bytes c = search needs
 
-add-wide : tie.Need-add-wide
-add-wide c = search needs
+shared-slice-read-of-bytes-2 : tie.Need-shared-slice-read-of-bytes-2
+shared-slice-read-of-bytes-2 c = search needs
 
-shared-slice-read-wide-2 : tie.Need-shared-slice-read-wide-2
-shared-slice-read-wide-2 c = search needs
+add-of-bytes-2 : tie.Need-add-of-bytes-2
+add-of-bytes-2 c = search needs
 
-wide-requires-2 : tie.Need-wide-requires-2
-wide-requires-2 c κs = search needs
+shared-slice-read-of-bytes-3 : tie.Need-shared-slice-read-of-bytes-3
+shared-slice-read-of-bytes-3 c = search needs
 
-mul-result : tie.Need-mul-result
-mul-result c = search needs
+add-of-bytes-3 : tie.Need-add-of-bytes-3
+add-of-bytes-3 c = search needs
 
-add-result : tie.Need-add-result
-add-result c = search needs
+shared-slice-read-of-bytes-4 : tie.Need-shared-slice-read-of-bytes-4
+shared-slice-read-of-bytes-4 c = search needs
 
-add-wide-2 : tie.Need-add-wide-2
-add-wide-2 c = search needs
-
-shared-slice-read-wide-3 : tie.Need-shared-slice-read-wide-3
-shared-slice-read-wide-3 c = search needs
-
-wide-requires-3 : tie.Need-wide-requires-3
-wide-requires-3 c κs = search needs
-
-mul-result-2 : tie.Need-mul-result-2
-mul-result-2 c = search needs
-
-add-result-2 : tie.Need-add-result-2
-add-result-2 c = search needs
-
-add-wide-3 : tie.Need-add-wide-3
-add-wide-3 c = search needs
-
-shared-slice-read-wide-4 : tie.Need-shared-slice-read-wide-4
-shared-slice-read-wide-4 c = search needs
-
-wide-requires-4 : tie.Need-wide-requires-4
-wide-requires-4 c κs = search needs
-
-mul-result-3 : tie.Need-mul-result-3
-mul-result-3 c = search needs
-
-add-result-3 : tie.Need-add-result-3
-add-result-3 c = search needs
+of-bytes-requires : tie.Need-of-bytes-requires
+of-bytes-requires c κs = search needs
 
 returns-2 : tie.Need-returns-2
 returns-2 c = search word-whole
@@ -76,21 +49,12 @@ word-in-spec =
     mul-at
     add-if1
     returns
-    shared-slice-read-wide
-    wide-requires
-    add-wide
-    shared-slice-read-wide-2
-    wide-requires-2
-    mul-result
-    add-result
-    add-wide-2
-    shared-slice-read-wide-3
-    wide-requires-3
-    mul-result-2
-    add-result-2
-    add-wide-3
-    shared-slice-read-wide-4
-    wide-requires-4
-    mul-result-3
-    add-result-3
+    shared-slice-read-of-bytes
+    add-of-bytes
+    shared-slice-read-of-bytes-2
+    add-of-bytes-2
+    shared-slice-read-of-bytes-3
+    add-of-bytes-3
+    shared-slice-read-of-bytes-4
+    of-bytes-requires
     returns-2)

@@ -4,9 +4,11 @@ use Rattle.report.proofs.lines.put_pass.Statement.{statement}
 use Rattle.report.proofs.lines.put_pass.Tie as tie
 use Rattle.report.proofs.lines.put_pass.Reads as reads
 use Rattle.report.proofs.lines.put_pass.Lts as lts
-use Rattle.report.proofs.fields.counts.Reads as counts-reads
-use Rattle.report.proofs.lines.put_listed.Reads as put-listed-reads
+use Rattle.report.proofs.lines.put_fields.Reads as put-fields-reads
 use Rattle.report.proofs.lines.put_name.Reads as put-name-reads
+
+cast-t7 : tie.Need-cast-t7
+cast-t7 c = search needs
 
 slice-aggregate-put-name : tie.Need-slice-aggregate-put-name
 slice-aggregate-put-name c = search needs
@@ -14,11 +16,11 @@ slice-aggregate-put-name c = search needs
 put-name-requires : tie.Need-put-name-requires
 put-name-requires c κs = search needs
 
-counts-requires : tie.Need-counts-requires
-counts-requires c κs = search needs
+slice-aggregate-put-fields : tie.Need-slice-aggregate-put-fields
+slice-aggregate-put-fields c = search needs
 
-put-listed-requires : tie.Need-put-listed-requires
-put-listed-requires c κs = search needs
+put-fields-requires : tie.Need-put-fields-requires
+put-fields-requires c κs = search needs
 
 same-length : tie.Need-same-length
 same-length c = search needs
@@ -30,9 +32,10 @@ pub put-pass-spec : {M : Type 1} → statement M
 put-pass-spec =
     tie.close
     (tie.spec
+    cast-t7
     slice-aggregate-put-name
     put-name-requires
-    counts-requires
-    put-listed-requires
+    slice-aggregate-put-fields
+    put-fields-requires
     same-length
     returns)

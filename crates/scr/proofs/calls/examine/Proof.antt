@@ -4,11 +4,26 @@ use Rattle.scr.proofs.calls.examine.Statement.{statement}
 use Rattle.scr.proofs.calls.examine.Tie as tie
 use Rattle.scr.proofs.calls.examine.Reads as reads
 use Rattle.scr.proofs.calls.examine.Lts as lts
-use Rattle.simulator.proofs.write_front.Reads as write-front-reads
 use Rattle.scr.proofs.refusals.gap.Reads as gap-reads
 use Rattle.scr.proofs.refusals.overlap.Reads as overlap-reads
 use Rattle.scr.proofs.refusals.step_overlap.Reads as step-overlap-reads
 use Rattle.simulator.proofs.values_in.Reads as values-in-reads
+use Rattle.simulator.proofs.write_front.Reads as write-front-reads
+
+slice-aggregate-values-in : tie.Need-slice-aggregate-values-in
+slice-aggregate-values-in c = search needs
+
+slice-aggregate-values-in-2 : tie.Need-slice-aggregate-values-in-2
+slice-aggregate-values-in-2 c = search needs
+
+sub-values-in : tie.Need-sub-values-in
+sub-values-in c = search needs
+
+part-values-in-start : tie.Need-part-values-in-start
+part-values-in-start c = search needs
+
+part-values-in-end : tie.Need-part-values-in-end
+part-values-in-end c = search needs
 
 values-in-requires : tie.Need-values-in-requires
 values-in-requires c κs = search needs
@@ -62,12 +77,17 @@ same-length-5 : tie.Need-same-length-5
 same-length-5 c = search needs
 
 returns-4 : tie.Need-returns-4
-returns-4 c = (done-count _ _ _ _ _ _ _ _ _ (search) (c .before .before .before .before .before .before .before .before .before .values-in .ensures .0) (search) (c .before .before .before .before .before .before .before .before .before .values-in .ensures .1), search done-written)
+returns-4 c = (search done-count, search done-written)
 
 pub examine-spec : {M : Type 1} → statement M
 examine-spec =
     tie.close
     (tie.spec
+    slice-aggregate-values-in
+    slice-aggregate-values-in-2
+    sub-values-in
+    part-values-in-start
+    part-values-in-end
     values-in-requires
     enum-known-r
     gap-requires

@@ -6,15 +6,6 @@ use Rattle.scr.proofs.calls.reads.Reads as reads
 use Rattle.scr.proofs.calls.reads.Lts as lts
 use Rattle.scr.proofs.opening.open.Reads as open-reads
 
-slice-aggregate-open : tie.Need-slice-aggregate-open
-slice-aggregate-open c = search needs
-
-slice-aggregate-open-2 : tie.Need-slice-aggregate-open-2
-slice-aggregate-open-2 c = search needs
-
-slice-aggregate-open-3 : tie.Need-slice-aggregate-open-3
-slice-aggregate-open-3 c = search needs
-
 open-requires : tie.Need-open-requires
 open-requires c κs = search needs
 
@@ -31,14 +22,4 @@ returns-2 : tie.Need-returns-2
 returns-2 c = search reads-set
 
 pub reads-spec : {M : Type 1} → statement M
-reads-spec =
-    tie.close
-    (tie.spec
-    slice-aggregate-open
-    slice-aggregate-open-2
-    slice-aggregate-open-3
-    open-requires
-    enum-told
-    enum-told-2
-    returns
-    returns-2)
+reads-spec = tie.close (tie.spec open-requires enum-told enum-told-2 returns returns-2)

@@ -10,8 +10,23 @@ use Rattle.simulator.proofs.step_from.Reads as step-from-reads
 returns : tie.Need-returns
 returns c = search step-no-state
 
+slice-aggregate-step-from : tie.Need-slice-aggregate-step-from
+slice-aggregate-step-from c = search needs
+
+slice-aggregate-step-from-2 : tie.Need-slice-aggregate-step-from-2
+slice-aggregate-step-from-2 c = search needs
+
 sub-step-from : tie.Need-sub-step-from
 sub-step-from c = search needs
+
+part-step-from-start : tie.Need-part-step-from-start
+part-step-from-start c = search needs
+
+part-step-from-end : tie.Need-part-step-from-end
+part-step-from-end c = search needs
+
+sub-step-from-2 : tie.Need-sub-step-from-2
+sub-step-from-2 c = search needs
 
 part-before-start : tie.Need-part-before-start
 part-before-start c = search needs
@@ -19,8 +34,8 @@ part-before-start c = search needs
 part-before-end : tie.Need-part-before-end
 part-before-end c = search needs
 
-sub-step-from-2 : tie.Need-sub-step-from-2
-sub-step-from-2 c = search needs
+sub-step-from-3 : tie.Need-sub-step-from-3
+sub-step-from-3 c = search needs
 
 part-after-start : tie.Need-part-after-start
 part-after-start c = search needs
@@ -42,10 +57,15 @@ step-spec =
     tie.close
     (tie.spec
     returns
+    slice-aggregate-step-from
+    slice-aggregate-step-from-2
     sub-step-from
+    part-step-from-start
+    part-step-from-end
+    sub-step-from-2
     part-before-start
     part-before-end
-    sub-step-from-2
+    sub-step-from-3
     part-after-start
     part-after-end
     step-from-requires

@@ -1,4 +1,4 @@
-use Rattle.scr.proofs.Calling.{count-room, kept-room, count-no-state, kept-no-state, count-examined, written-examined}
+use Rattle.scr.proofs.Calling.{count-room, kept-room, count-no-state, kept-no-state}
 use borrow.Author.Needs.{needs}
 use Rattle.scr.proofs.calls.values.Statement.{statement}
 use Rattle.scr.proofs.calls.values.Tie as tie
@@ -28,7 +28,7 @@ same-length : tie.Need-same-length
 same-length c = search needs
 
 returns-3 : tie.Need-returns-3
-returns-3 c = (search count-examined, search written-examined)
+returns-3 c = search needs
 
 pub values-spec : {M : Type 1} → statement M
 values-spec =

@@ -7,8 +7,8 @@ use Rattle.scr.proofs.runs.run.Lts as lts
 use Rattle.scr.proofs.runs.perform_from.Reads as perform-from-reads
 use Rattle.scr.proofs.runs.room_from.Reads as room-from-reads
 
-add-t14 : tie.Need-add-t14
-add-t14 c = search needs
+add-t10 : tie.Need-add-t10
+add-t10 c = search needs
 
 returns : tie.Need-returns
 returns c = (search many-answer, search many-kept)
@@ -35,7 +35,7 @@ pub run-spec : {M : Type 1} → statement M
 run-spec =
     tie.close
     (tie.spec
-    add-t14
+    add-t10
     returns
     room-from-requires
     returns-2

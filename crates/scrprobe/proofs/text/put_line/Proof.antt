@@ -2,17 +2,17 @@ use borrow.Author.Needs.{needs}
 use mathlib.Core.Path.{_≡_}
 use Prim.Native.Nat.{_≤_, _-_}
 use lib.ListN.{length}
-use Rattle.scrprobe.proofs.text.put_fields.Statement.{statement}
-use Rattle.scrprobe.proofs.text.put_fields.Tie as tie
+use Rattle.scrprobe.proofs.text.put_line.Statement.{statement}
+use Rattle.scrprobe.proofs.text.put_line.Tie as tie
 
 abbrev Inv-loop : tie.InvT-loop
-Inv-loop out₀ at numbers count on₀ n i₀ out on i = (i ≤ n) × (length out ≡ length out₀)
+Inv-loop out₀ name numbers on₀ i₀ i-end out on i = (i ≤ length numbers) × (length out ≡ length out₀)
 
 abbrev μ-loop : tie.MeasureT-loop
-μ-loop out₀ at numbers count on₀ n i₀ out on i = n - i
+μ-loop out₀ name numbers on₀ i₀ i-end out on i = length numbers - i
 
-least-requires : tie.Need-least-requires Inv-loop μ-loop
-least-requires c κs = search needs
+put-bytes-requires : tie.Need-put-bytes-requires Inv-loop μ-loop
+put-bytes-requires c κs = search needs
 
 loop-holds : tie.Need-loop-holds Inv-loop μ-loop
 loop-holds c = search needs
@@ -35,19 +35,22 @@ loop-less c = search needs
 loop-again : tie.Need-loop-again Inv-loop μ-loop
 loop-again c = search needs
 
+put-requires : tie.Need-put-requires Inv-loop μ-loop
+put-requires c κs = search needs
+
 same-length : tie.Need-same-length Inv-loop μ-loop
 same-length c = search needs
 
 returns : tie.Need-returns Inv-loop μ-loop
 returns c = search needs
 
-pub put-fields-spec : {M : Type 1} → statement M
-put-fields-spec =
+pub put-line-spec : {M : Type 1} → statement M
+put-line-spec =
     tie.close
     (tie.spec
     Inv-loop
     μ-loop
-    least-requires
+    put-bytes-requires
     loop-holds
     mul-put-field
     shared-slice-read-put-field
@@ -55,5 +58,6 @@ put-fields-spec =
     add-i
     loop-less
     loop-again
+    put-requires
     same-length
     returns)
