@@ -32,7 +32,7 @@ valuesIn ws ps us os n c s room =
 -- the first assertion stands at p
 unfoldable pub verdictIn : List ℕ → List ℕ → List ℕ → List ℕ → ℕ → ℕ → ℕ → Outcome Counts
 verdictIn ws ps us os n p c =
-    checkIn ws ps us os n p c >>= λ m. ok (record { states = c; steps = c * sum-below (otherValuesAt ws n) n; assertions = m })
+    checkIn ws ps us os n p c >>= λ m. ok (record { states = c; steps = c * sum-below (otherValuesAt ws ps n) n; assertions = m })
 
 -- what is tested before the events of a run, with so much room for them
 unfoldable pub readyIn : ℕ → ℕ → ℕ → ℕ → Outcome (Unit {0})

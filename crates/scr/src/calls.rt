@@ -5,6 +5,7 @@ use crate::Refusal;
 use crate::opening::Opened;
 use crate::opening::open;
 use crate::refusals;
+use index::PLACES;
 use simulator::Settled;
 use simulator::step_from;
 use simulator::values_in;
@@ -23,7 +24,7 @@ ghost use Rattle.scr.specs.Indexed.{stepIn, valuesIn, readsWell};
 pub fn reads(words: &[u32]) -> bool
     ensures { λ r. ⌜ r ≡ readsWell (now (words .entry)) ⌝ }
 {
-    let mut places = [0usize; 32];
+    let mut places = [0usize; PLACES];
     let mut weights = [0u32; 32];
     let mut order = [0usize; 32];
     let o = open(words, &mut places, &mut weights, &mut order);

@@ -9,6 +9,7 @@ mod verdicts; // the verdict of a set that reads
 
 use crate::opening::Opened;
 use crate::opening::open;
+use index::PLACES;
 use part::part_end;
 use part::part_start;
 use state::initial_state;
@@ -151,7 +152,7 @@ pub fn start(words: &[u32]) -> Answer
     ensures { λ r. ⌜ answerSays r ≡ startOf (now (words .entry)) ⌝ }
     ensures { λ r. ⌜ AnswersOrRefuses (answerSays r) (StartRefused (now (words .entry))) ⌝ }
 {
-    let mut places = [0usize; 32];
+    let mut places = [0usize; PLACES];
     let mut weights = [0u32; 32];
     let mut order = [0usize; 32];
     let o = open(words, &mut places, &mut weights, &mut order);
@@ -167,7 +168,7 @@ pub fn check(words: &[u32]) -> Verdict
     ensures { λ r. ⌜ AnswersOrRefuses (verdictSays r) (Refused (now (words .entry))) ⌝ }
     ensures { λ r. ⌜ Demand2 (now (words .entry)) r ⌝ }
 {
-    let mut places = [0usize; 32];
+    let mut places = [0usize; PLACES];
     let mut weights = [0u32; 32];
     let mut order = [0usize; 32];
     let o = open(words, &mut places, &mut weights, &mut order);
@@ -184,7 +185,7 @@ pub fn step(words: &[u32], state: u32, event: u32) -> Answer
     ensures { λ r. ⌜ AnswersOrRefuses (answerSays r) (StepRefused (now (words .entry)) state event) ⌝ }
     ensures { λ r. ⌜ StepsExactly (now (words .entry)) state event r ⌝ }
 {
-    let mut places = [0usize; 32];
+    let mut places = [0usize; PLACES];
     let mut weights = [0u32; 32];
     let mut order = [0usize; 32];
     let o = open(words, &mut places, &mut weights, &mut order);
@@ -211,7 +212,7 @@ pub fn run(words: &[u32], state: u32, events: &[u32], trace: &mut [u32], place: 
     ensures { λ r. ⌜ RunAnswers (now (words .entry)) state (now (events .entry)) (now (trace .entry)) place (answerSays r) (now (trace .exit)) ⌝ }
     ensures { λ r. ⌜ Demand3 (now (words .entry)) state (now (events .entry)) (now (trace .entry)) place (answerSays r) (now (trace .exit)) ⌝ }
 {
-    let mut places = [0usize; 32];
+    let mut places = [0usize; PLACES];
     let mut weights = [0u32; 32];
     let mut order = [0usize; 32];
     let o = open(words, &mut places, &mut weights, &mut order);
@@ -238,7 +239,7 @@ pub fn values(words: &[u32], state: u32, out: &mut [Value]) -> Count
     ensures { λ r. ⌜ now (out .exit) ≡ lentValues (valuesOf (now (words .entry)) state (length (now (out .entry)))) (now (out .entry)) ⌝ }
     ensures { λ r. ⌜ AnswersOrRefuses (countSays r) (ValuesRefused (now (words .entry)) state (length (now (out .entry)))) ⌝ }
 {
-    let mut places = [0usize; 32];
+    let mut places = [0usize; PLACES];
     let mut weights = [0u32; 32];
     let mut order = [0usize; 32];
     let o = open(words, &mut places, &mut weights, &mut order);
