@@ -1,5 +1,6 @@
 // Conditions and events. `left` levels may still stand, this word's included; each operand has one less.
-// A place past the end is tested first, so that the place after it is a number.
+// A place past the end is tested first, so that the place after it is a number. Each arm returns its answer at once: the value of a match
+// would be kept and copied at every word.
 use crate::tests::fits_condition;
 use crate::tests::fits_event;
 use crate::tests::test_ok;
@@ -38,18 +39,17 @@ pub fn read_condition(words: &[u32], places: &[usize], n: usize, at: usize, left
     match kind(w) {
         TEST => {
             if test_ok(words, places, n, w) {
-                Reached::Next(on)
-            } else {
-                Reached::Refused(3, at)
+                return Reached::Next(on);
             }
+            return Reached::Refused(3, at);
         }
-        CONSTANT => Reached::Next(on),
-        NOT => read_condition(words, places, n, on, less),
+        CONSTANT => return Reached::Next(on),
+        NOT => return read_condition(words, places, n, on, less),
         _ => {
             let first = read_condition(words, places, n, on, less);
             match first {
-                Reached::Next(j) => read_condition(words, places, n, j, less),
-                Reached::Refused(k, i) => Reached::Refused(k, i),
+                Reached::Next(j) => return read_condition(words, places, n, j, less),
+                Reached::Refused(k, i) => return Reached::Refused(k, i),
             }
         }
     }
@@ -61,8 +61,8 @@ pub fn read_change(words: &[u32], places: &[usize], n: usize, at: usize, left: u
 {
     let first = read_condition(words, places, n, at, left);
     match first {
-        Reached::Next(j) => read_condition(words, places, n, j, left),
-        Reached::Refused(k, i) => Reached::Refused(k, i),
+        Reached::Next(j) => return read_condition(words, places, n, j, left),
+        Reached::Refused(k, i) => return Reached::Refused(k, i),
     }
 }
 
@@ -84,24 +84,22 @@ pub fn read_event(words: &[u32], places: &[usize], n: usize, at: usize, left: us
     match kind(w) {
         CONSTANT => {
             if truth(w) == 0 {
-                Reached::Next(on)
-            } else {
-                Reached::Refused(3, at)
+                return Reached::Next(on);
             }
+            return Reached::Refused(3, at);
         }
         OR => {
             let first = read_event(words, places, n, on, less);
             match first {
-                Reached::Next(j) => read_event(words, places, n, j, less),
-                Reached::Refused(k, i) => Reached::Refused(k, i),
+                Reached::Next(j) => return read_event(words, places, n, j, less),
+                Reached::Refused(k, i) => return Reached::Refused(k, i),
             }
         }
         _ => {
             if within(BECOMES_TRUE, BECOMES_FALSE, sort(w)) {
-                read_change(words, places, n, on, less)
-            } else {
-                Reached::Refused(3, at)
+                return read_change(words, places, n, on, less);
             }
+            return Reached::Refused(3, at);
         }
     }
 }

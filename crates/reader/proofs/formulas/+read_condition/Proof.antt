@@ -62,8 +62,20 @@ read-condition-kind-requires t c κs = search needs
 read-condition-test-ok-requires : (t : ℕ) → read-condition-lts.Need-test-ok-requires (calls t) (read-condition-at t) read-condition.Post
 read-condition-test-ok-requires t c κs = search needs
 
+read-condition-returns-4 : (t : ℕ) → read-condition-lts.Need-returns-4 (calls t) (read-condition-at t) read-condition.Post
+read-condition-returns-4 t c = search conditions
+
+read-condition-returns-5 : (t : ℕ) → read-condition-lts.Need-returns-5 (calls t) (read-condition-at t) read-condition.Post
+read-condition-returns-5 t c = search conditions
+
+read-condition-returns-6 : (t : ℕ) → read-condition-lts.Need-returns-6 (calls t) (read-condition-at t) read-condition.Post
+read-condition-returns-6 t c = search conditions
+
 read-condition-read-condition-requires : (t : ℕ) → read-condition-lts.Need-read-condition-requires (calls t) (read-condition-at t) read-condition.Post
 read-condition-read-condition-requires t c κs = search needs
+
+read-condition-returns-7 : (t : ℕ) → read-condition-lts.Need-returns-7 (calls t) (read-condition-at t) read-condition.Post
+read-condition-returns-7 t c = search conditions
 
 read-condition-read-condition-requires-2 : (t : ℕ) → read-condition-lts.Need-read-condition-requires-2 (calls t) (read-condition-at t) read-condition.Post
 read-condition-read-condition-requires-2 t c κs = search needs
@@ -74,23 +86,11 @@ read-condition-enum-known-first t c = search needs
 read-condition-read-condition-requires-3 : (t : ℕ) → read-condition-lts.Need-read-condition-requires-3 (calls t) (read-condition-at t) read-condition.Post
 read-condition-read-condition-requires-3 t c κs = search needs
 
-read-condition-enum-known-first-2 : (t : ℕ) → read-condition-lts.Need-enum-known-first-2 (calls t) (read-condition-at t) read-condition.Post
-read-condition-enum-known-first-2 t c = search needs
-
-read-condition-returns-4 : (t : ℕ) → read-condition-lts.Need-returns-4 (calls t) (read-condition-at t) read-condition.Post
-read-condition-returns-4 t c = search conditions
-
-read-condition-returns-5 : (t : ℕ) → read-condition-lts.Need-returns-5 (calls t) (read-condition-at t) read-condition.Post
-read-condition-returns-5 t c = search conditions
-
-read-condition-returns-6 : (t : ℕ) → read-condition-lts.Need-returns-6 (calls t) (read-condition-at t) read-condition.Post
-read-condition-returns-6 t c = search conditions
-
-read-condition-returns-7 : (t : ℕ) → read-condition-lts.Need-returns-7 (calls t) (read-condition-at t) read-condition.Post
-read-condition-returns-7 t c = search conditions
-
 read-condition-returns-8 : (t : ℕ) → read-condition-lts.Need-returns-8 (calls t) (read-condition-at t) read-condition.Post
 read-condition-returns-8 t c = search conditions
+
+read-condition-enum-known-first-2 : (t : ℕ) → read-condition-lts.Need-enum-known-first-2 (calls t) (read-condition-at t) read-condition.Post
+read-condition-enum-known-first-2 t c = search needs
 
 read-condition-returns-9 : (t : ℕ) → read-condition-lts.Need-returns-9 (calls t) (read-condition-at t) read-condition.Post
 read-condition-returns-9 t c = search conditions
@@ -108,14 +108,14 @@ pub +read-condition-spec : {M : Type 1} → statement M
     (read-condition-sub-less t)
     (read-condition-kind-requires t)
     (read-condition-test-ok-requires t)
-    (read-condition-read-condition-requires t)
-    (read-condition-read-condition-requires-2 t)
-    (read-condition-enum-known-first t)
-    (read-condition-read-condition-requires-3 t)
-    (read-condition-enum-known-first-2 t)
     (read-condition-returns-4 t)
     (read-condition-returns-5 t)
     (read-condition-returns-6 t)
+    (read-condition-read-condition-requires t)
     (read-condition-returns-7 t)
+    (read-condition-read-condition-requires-2 t)
+    (read-condition-enum-known-first t)
+    (read-condition-read-condition-requires-3 t)
     (read-condition-returns-8 t)
+    (read-condition-enum-known-first-2 t)
     (read-condition-returns-9 t)

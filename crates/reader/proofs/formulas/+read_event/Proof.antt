@@ -57,6 +57,12 @@ read-event-kind-requires t c κs = search needs
 read-event-truth-requires : (t : ℕ) → read-event-lts.Need-truth-requires (calls t) (read-event-at t) read-event.Post
 read-event-truth-requires t c κs = search needs
 
+read-event-returns-4 : (t : ℕ) → read-event-lts.Need-returns-4 (calls t) (read-event-at t) read-event.Post
+read-event-returns-4 t c = search events
+
+read-event-returns-5 : (t : ℕ) → read-event-lts.Need-returns-5 (calls t) (read-event-at t) read-event.Post
+read-event-returns-5 t c = search events
+
 read-event-read-event-requires : (t : ℕ) → read-event-lts.Need-read-event-requires (calls t) (read-event-at t) read-event.Post
 read-event-read-event-requires t c κs = search needs
 
@@ -66,8 +72,14 @@ read-event-enum-known-first t c = search needs
 read-event-read-event-requires-2 : (t : ℕ) → read-event-lts.Need-read-event-requires-2 (calls t) (read-event-at t) read-event.Post
 read-event-read-event-requires-2 t c κs = search needs
 
+read-event-returns-6 : (t : ℕ) → read-event-lts.Need-returns-6 (calls t) (read-event-at t) read-event.Post
+read-event-returns-6 t c = search events
+
 read-event-enum-known-first-2 : (t : ℕ) → read-event-lts.Need-enum-known-first-2 (calls t) (read-event-at t) read-event.Post
 read-event-enum-known-first-2 t c = search needs
+
+read-event-returns-7 : (t : ℕ) → read-event-lts.Need-returns-7 (calls t) (read-event-at t) read-event.Post
+read-event-returns-7 t c = search events
 
 read-event-sort-requires : (t : ℕ) → read-event-lts.Need-sort-requires (calls t) (read-event-at t) read-event.Post
 read-event-sort-requires t c κs = search needs
@@ -77,18 +89,6 @@ read-event-within-requires t c κs = search needs
 
 read-event-read-change-requires : (t : ℕ) → read-event-lts.Need-read-change-requires (calls t) (read-event-at t) read-event.Post
 read-event-read-change-requires t c κs = search needs
-
-read-event-returns-4 : (t : ℕ) → read-event-lts.Need-returns-4 (calls t) (read-event-at t) read-event.Post
-read-event-returns-4 t c = search events
-
-read-event-returns-5 : (t : ℕ) → read-event-lts.Need-returns-5 (calls t) (read-event-at t) read-event.Post
-read-event-returns-5 t c = search events
-
-read-event-returns-6 : (t : ℕ) → read-event-lts.Need-returns-6 (calls t) (read-event-at t) read-event.Post
-read-event-returns-6 t c = search events
-
-read-event-returns-7 : (t : ℕ) → read-event-lts.Need-returns-7 (calls t) (read-event-at t) read-event.Post
-read-event-returns-7 t c = search events
 
 read-event-returns-8 : (t : ℕ) → read-event-lts.Need-returns-8 (calls t) (read-event-at t) read-event.Post
 read-event-returns-8 t c = search events
@@ -109,16 +109,16 @@ pub +read-event-spec : {M : Type 1} → statement M
     (read-event-sub-less t)
     (read-event-kind-requires t)
     (read-event-truth-requires t)
+    (read-event-returns-4 t)
+    (read-event-returns-5 t)
     (read-event-read-event-requires t)
     (read-event-enum-known-first t)
     (read-event-read-event-requires-2 t)
+    (read-event-returns-6 t)
     (read-event-enum-known-first-2 t)
+    (read-event-returns-7 t)
     (read-event-sort-requires t)
     (read-event-within-requires t)
     (read-event-read-change-requires t)
-    (read-event-returns-4 t)
-    (read-event-returns-5 t)
-    (read-event-returns-6 t)
-    (read-event-returns-7 t)
     (read-event-returns-8 t)
     (read-event-returns-9 t)

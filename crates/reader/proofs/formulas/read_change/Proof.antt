@@ -15,11 +15,11 @@ enum-known-first c = search needs
 read-condition-requires-2 : tie.Need-read-condition-requires-2
 read-condition-requires-2 c κs = search needs
 
-enum-known-first-2 : tie.Need-enum-known-first-2
-enum-known-first-2 c = search needs
-
 returns : tie.Need-returns
 returns c = search change-both
+
+enum-known-first-2 : tie.Need-enum-known-first-2
+enum-known-first-2 c = search needs
 
 returns-2 : tie.Need-returns-2
 returns-2 c = search change-stop
@@ -31,6 +31,6 @@ read-change-spec =
     read-condition-requires
     enum-known-first
     read-condition-requires-2
-    enum-known-first-2
     returns
+    enum-known-first-2
     returns-2)
