@@ -1,7 +1,10 @@
 -- Laws of the reading that every entry begins with, one for each way out.
 use mathlib.Core.Path.{_≡_, sym, _∙_}
+use mathlib.Core.Bool.{true}
 use mathlib.Core.List.{List, [], _∷_}
-use Prim.Native.Nat.{ℕ, _≤_}
+use Prim.Native.Nat.{ℕ}
+use Rattle.meaning.specs.Answers.{typedNumbers}
+use Rattle.meaning.specs.Searches.{mem}
 use Rattle.set.specs.declared.SetRead as R
 use Rattle.set.specs.declared.SetRead.the-variants as RV
 use Rattle.set.specs.ReadSet.{SetAs}
@@ -13,13 +16,9 @@ use Rattle.scr.specs.Opened.{ReadingAs, OpenedAs}
 use Rattle.scr.proofs.Refusing.{refused-says}
 
 module _ (ws ps us os : List ℕ) (r : R.SetRead) (h : SetAs ws r ps us os) where
-  pub reading-low : (k x : ℕ) → r ≡ RV.Refused k x → 1 ≤ k
+  pub reading-known : (k x : ℕ) → r ≡ RV.Refused k x → mem k typedNumbers ≡ true
   unfolding SetAs
-  reading-low k x e = let p = rw e at h in p .1
-
-  pub reading-high : (k x : ℕ) → r ≡ RV.Refused k x → k ≤ 8
-  unfolding SetAs
-  reading-high k x e = let p = rw e at h in p .2
+  reading-known k x e = let p = rw e at h in p .1
 
   module _ (o : Opened) (q : Refusal) (eo : o .reading ≡ Readings.Refused q) where
     pub open-refused : (k x : ℕ) → r ≡ RV.Refused k x → refusalSays q ≡ (k, x ∷ []) → OpenedAs ws o
