@@ -45,7 +45,7 @@ extern "C" {
 #define SCR_REFUSED UINT32_C(0x80000000)
 
 /*
- * Whether the set may be loaded: 0, or the number of the refusal, 1 to 14. All states and all steps of the set count. A set
+ * Whether the set may be loaded: 0, or the number of the refusal, none of step's alone. All states and all steps of the set count. A set
  * of a machine's size takes some hundredths of a second, one made to be hard took 19 seconds (docs/SPEED.md); no time is promised.
  */
 uint32_t scr_check(const uint8_t *bytes, size_t length);

@@ -9,6 +9,7 @@ use native.Mathlib.Decide.{decLe}
 use lib.ListN.{length, take, drop}
 use lib.Seq.{sets, sets-eq, take-at}
 use borrow.Author.Tests.{lt-leb}
+use Rattle.word.specs.Limits as Max
 use Rattle.meaning.specs.Answers.{Outcome, ok, refuse, _>>=_}
 use Rattle.meaning.specs.Syntax.{TableSet}
 use Rattle.meaning.specs.States.{stateCount, initialState, readSet}
@@ -50,30 +51,30 @@ module _ (ws : List ℕ) (z : TableSet) (passes : Passes ws z) (s : ℕ) where
     abbrev Whole : Ran
     Whole = runFrom z 0 s es
 
-    few-ready : length es ≤ 4096 → runReady ws s (length es) 4096 ≡ ok z
+    few-ready : length es ≤ Max.max-events → runReady ws s (length es) Max.max-events ≡ ok z
     unfolding runReady
     few-ready few = rw (set-is, true-leb few, true-ltb typed)
 
-    few-ran : length es ≤ 4096 → ranOf ws s es 4096 ≡ Whole
+    few-ran : length es ≤ Max.max-events → ranOf ws s es Max.max-events ≡ Whole
     unfolding ranOf
     few-ran few = rw (few-ready few, ranOf)
 
-    many-ready : 4096 < length es → runReady ws s (length es) 4096 ≡ refuse 17 (4097 ∷ [])
+    many-ready : Max.max-events < length es → runReady ws s (length es) Max.max-events ≡ refuse 17 (suc Max.max-events ∷ [])
     unfolding runReady
-    many-ready h = rw (set-is, lt-leb (length es) 4096 h)
+    many-ready h = rw (set-is, lt-leb (length es) Max.max-events h)
 
-    many-ran : 4096 < length es → ranOf ws s es 4096 ≡ record { done = []; last = refuse 17 (4097 ∷ []) }
+    many-ran : Max.max-events < length es → ranOf ws s es Max.max-events ≡ record { done = []; last = refuse 17 (suc Max.max-events ∷ []) }
     unfolding ranOf
     many-ran h = rw (many-ready h, ranOf)
 
-    module _ (lent after : List ℕ) (answer : Outcome ℕ) (room : length lent ≡ 4096) (runs : RunsInOrder z s es lent 0 answer after) where
+    module _ (lent after : List ℕ) (answer : Outcome ℕ) (room : length lent ≡ Max.max-events) (runs : RunsInOrder z s es lent 0 answer after) where
       counted : length (Whole .done) ≡ runs .done
       counted =
           let c = every-list-has-one-course ws z read s es typed .0 in
           let e = runs .only-course _ (subst (λ (t : ℕ). Course z t es (s ∷ Whole .done)) from c) in
           omega (arith, ap length e, runs .one-more)
 
-      module _ (few : length es ≤ 4096) (ea : answer ≡ Whole .last) (el : after ≡ sets lent 0 (Whole .done)) where
+      module _ (few : length es ≤ Max.max-events) (ea : answer ≡ Whole .last) (el : after ≡ sets lent 0 (Whole .done)) where
         told : Answered es (runs .course) (runs .done) answer
         told = runs .run from few (omega arith) .1
 
@@ -94,16 +95,16 @@ module _ (ws : List ℕ) (z : TableSet) (passes : Passes ws z) (s : ℕ) where
             ]
 
     -- the lines by the answer and the states written are the meaning's
-    pub ran-is : (lent after : List ℕ) (answer : Outcome ℕ) → length lent ≡ 4096 → answer ≡ runOf ws s es lent 0 .answer
+    pub ran-is : (lent after : List ℕ) (answer : Outcome ℕ) → length lent ≡ Max.max-events → answer ≡ runOf ws s es lent 0 .answer
         → after ≡ runOf ws s es lent 0 .lent → RunsInOrder z s es lent 0 answer after
-        → ranLines es after answer ≡ runLines es (ranOf ws s es 4096)
+        → ranLines es after answer ≡ runLines es (ranOf ws s es Max.max-events)
     unfolding runOf ranLines runLines endLine doneBefore
     ran-is lent after answer room ea el runs =
-        let q : length lent - 0 ≡ 4096 = omega arith in
-        go (rw q at ea) (rw q at el) (decLe (length es) 4096)
+        let q : length lent - 0 ≡ Max.max-events = omega arith in
+        go (rw q at ea) (rw q at el) (decLe (length es) Max.max-events)
       where
-        go : answer ≡ ranOf ws s es 4096 .last → after ≡ sets lent 0 (ranOf ws s es 4096 .done) → Dec (length es ≤ 4096)
-            → ranLines es after answer ≡ runLines es (ranOf ws s es 4096)
+        go : answer ≡ ranOf ws s es Max.max-events .last → after ≡ sets lent 0 (ranOf ws s es Max.max-events .done) → Dec (length es ≤ Max.max-events)
+            → ranLines es after answer ≡ runLines es (ranOf ws s es Max.max-events)
         go ea el (yes few) =
             let w = few-ran few in
             rw w (few-lines lent after answer room runs few (rw w at ea) (rw w at el))

@@ -6,6 +6,7 @@ use native.Mathlib.Omega.{arith}
 use lib.ListN.{length, take, replicate, length-replicate}
 use types.Run.{OneOf, miss}
 use denote.Enum.Declared.{tagOf}
+use Rattle.word.specs.Limits as Max
 use Rattle.meaning.specs.Answers.{ok, refuse}
 use Rattle.meaning.specs.Calls.{startOf}
 use Rattle.meaning.specs.Run.{runOf}
@@ -65,15 +66,15 @@ module _ (es tr xs ys part : List ℕ) (at : ℕ) (a : Answer) where
 
 -- ---- the run from the initial state
 module _ (ws es : List ℕ) (passed : Passed ws) (i : Answer) (ei : answerSays i ≡ startOf ws) where
-  pub run-put : (tr xs ys : List ℕ) (at r s : ℕ) (a : Answer) → i ≡ A.State s → answerSays a ≡ runOf ws s es (replicate 4096 0) 0 .answer
-      → tr ≡ runOf ws s es (replicate 4096 0) 0 .lent → Demand3 ws s es (replicate 4096 0) 0 (answerSays a) tr
+  pub run-put : (tr xs ys : List ℕ) (at r s : ℕ) (a : Answer) → i ≡ A.State s → answerSays a ≡ runOf ws s es (replicate Max.max-events 0) 0 .answer
+      → tr ≡ runOf ws s es (replicate Max.max-events 0) 0 .lent → Demand3 ws s es (replicate Max.max-events 0) 0 (answerSays a) tr
       → upTo r ys ≡ upTo at xs ++ ranLines es tr (answerSays a) → upTo r ys ≡ upTo at xs ++ runFromStart ws es (startOf ws)
   unfolding runFromStart answerSays
   run-put tr xs ys at r s a e ea et d h =
       let o : ok s ≡ startOf ws = rw e at ei in
       let z : ℕ = 0 in
       rw (← o) (h ∙ ap (λ (l : List ℕ). upTo at xs ++ l)
-      (ran-is ws (passed .0) (passed .1) s es (start-is ws (passed .0) (passed .1) s o) (replicate 4096 0) tr (answerSays a) (length-replicate 4096 z) ea et (d (passed .0) (passed .1))))
+      (ran-is ws (passed .0) (passed .1) s es (start-is ws (passed .0) (passed .1) s o) (replicate Max.max-events 0) tr (answerSays a) (length-replicate Max.max-events z) ea et (d (passed .0) (passed .1))))
 
   -- a set that passes has an initial state
   pub start-put : (xs : List ℕ) (at : ℕ) (q : Refusal) → i ≡ A.Refused q → upTo at xs ≡ upTo at xs ++ runFromStart ws es (startOf ws)

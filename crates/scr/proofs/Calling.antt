@@ -30,7 +30,6 @@ use Rattle.scr.specs.declared.Answer.{Answer}
 use Rattle.scr.specs.declared.Answer.the-variants as A
 use Rattle.scr.specs.declared.Count.the-variants as C
 use Rattle.scr.specs.declared.opening.Index.{Index}
-use Rattle.scr.specs.declared.opening.Opened.{Opened}
 use Rattle.scr.specs.declared.opening.Reading.the-variants as Readings
 use Rattle.scr.specs.Answers.{refusalSays, refused, answerSays, countSays, countOf}
 use Rattle.scr.specs.Opened.{IndexOf, ReadingAs, OpenedAs, isOk, readsWell}
@@ -38,7 +37,7 @@ use Rattle.scr.proofs.Refusing.{refused-says}
 use Rattle.scr.proofs.Indexing.{lentOrder, well, few, order-lent, typed-state, no-state}
 
 -- ---- does the set read?
-module _ (ws : List ℕ) (o : Opened) (h : OpenedAs ws o) where
+module _ (ws : List ℕ) (o : Index) (h : OpenedAs ws o) where
   pub reads-refused : (q : Refusal) → o .reading ≡ Readings.Refused q → false ≡ readsWell ws
   unfolding readsWell isOk OpenedAs ReadingAs refused
   reads-refused q e = let p = rw e at h in rw p

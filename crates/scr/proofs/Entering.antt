@@ -1,5 +1,5 @@
 -- Laws of the entries, one for each way out.
-use mathlib.Core.Path.{_≡_, refl, sym, ap, _∙_}
+use mathlib.Core.Path.{_≡_, refl, sym, ap, _∙_, subst}
 use mathlib.Core.Bool.{Bool, true, false, not}
 use mathlib.Core.List.{List, []}
 use Prim.Native.Nat.{ℕ, _-_, _≤_, _<_}
@@ -20,16 +20,17 @@ use Rattle.scr.specs.declared.Refusal.{Refusal}
 use Rattle.scr.specs.declared.Answer.the-variants as A
 use Rattle.scr.specs.declared.Verdict.the-variants as Verdicts
 use Rattle.scr.specs.declared.Count.the-variants as C
-use Rattle.scr.specs.declared.opening.Opened.{Opened}
+use Rattle.scr.specs.declared.opening.Index.{Index}
+use Rattle.scr.specs.declared.opening.Reading.{Reading}
 use Rattle.scr.specs.declared.opening.Reading.the-variants as Readings
 use Rattle.scr.specs.Answers.{refused, answerSays, verdictSays, countSays, countOf}
 use Rattle.scr.specs.Opened.{IndexOf, ReadingAs, OpenedAs, isOk, readsWell}
 
 -- ---- by what the entry begins with
-module _ (ws : List ℕ) (o : Opened) (h : OpenedAs ws o) where
-  pub index-of : o .reading ≡ Readings.Set → IndexOf ws (o .index)
+module _ (ws : List ℕ) (o : Index) (h : OpenedAs ws o) where
+  pub index-of : o .reading ≡ Readings.Set → IndexOf ws o
   unfolding OpenedAs ReadingAs
-  index-of e = rw e at h
+  index-of e = subst (λ (r : Reading). ReadingAs ws r o) e h
 
   -- a call that begins with the reading is refused as the reading is
   module _ (q : Refusal) (e : o .reading ≡ Readings.Refused q) where

@@ -1,11 +1,15 @@
 -- Laws of the functions that make refusals, one for each way out.
 use mathlib.Core.Path.{_≡_}
+use mathlib.Core.Logic.{inl, inr}
+use mathlib.Core.Bool.{true}
 use mathlib.Core.List.{List, [], _∷_}
-use Prim.Native.Nat.{ℕ, suc, _≤_}
-use native.Mathlib.Omega.{arith}
+use Prim.Native.Nat.{ℕ}
+use borrow.Author.Tests.{ne-eqb}
 use Rattle.word.specs.Fields as W
-use Rattle.meaning.specs.Answers.{Outcome, refuse}
+use Rattle.meaning.specs.Answers.{Outcome, refuse, typedNumbers}
+use Rattle.meaning.specs.Searches.{mem}
 use Rattle.meaning.specs.Steps.{inputOf}
+use Rattle.theory.specs.Tests.{mem-cons, mem-none}
 use Rattle.simulator.specs.declared.Stepped as S
 use Rattle.simulator.specs.declared.Stepped.the-variants as SV
 use Rattle.simulator.specs.StepIndex.{steppedSays}
@@ -20,13 +24,7 @@ use Rattle.scr.specs.Telling.{Tells}
 pub told-case : (t : Told) (q q′ : Refusal) → q ≡ q′ → Tells t (refusalSays q′) → Tells t (refusalSays q)
 told-case t q q′ e h = rw e h
 
--- ---- 1 to 8
-next-up : (k m : ℕ) → m ≤ k → (k ≡ m → ⊥) → suc m ≤ k
-next-up k m h n = omega arith
-
-eight : (k : ℕ) → k ≤ 8 → 8 ≤ k → k ≡ 8
-eight k h l = omega arith
-
+-- ---- of reading, before the dependency order
 module _ (k x : ℕ) where
   pub says-1 : k ≡ 1 → refusalSays (R.Length x) ≡ (k, x ∷ [])
   unfolding refusalSays
@@ -56,17 +54,13 @@ module _ (k x : ℕ) where
   unfolding refusalSays
   says-7 e = rw e
 
-  pub says-8 : k ≤ 8 → 1 ≤ k → (k ≡ 1 → ⊥) → (k ≡ 2 → ⊥) → (k ≡ 3 → ⊥) → (k ≡ 4 → ⊥) → (k ≡ 5 → ⊥) → (k ≡ 6 → ⊥) → (k ≡ 7 → ⊥)
+  -- the number that is left
+  pub says-8 : mem k typedNumbers ≡ true → (k ≡ 1 → ⊥) → (k ≡ 2 → ⊥) → (k ≡ 3 → ⊥) → (k ≡ 4 → ⊥) → (k ≡ 5 → ⊥) → (k ≡ 6 → ⊥) → (k ≡ 7 → ⊥)
       → refusalSays (R.States x) ≡ (k, x ∷ [])
-  unfolding refusalSays
-  says-8 h l a b c d e f g =
-      let l2 : 2 ≤ k = next-up k 1 l a in
-      let l3 : 3 ≤ k = next-up k 2 l2 b in
-      let l4 : 4 ≤ k = next-up k 3 l3 c in
-      let l5 : 5 ≤ k = next-up k 4 l4 d in
-      let l6 : 6 ≤ k = next-up k 5 l5 e in
-      let l7 : 7 ≤ k = next-up k 6 l6 f in
-      let q : k ≡ 8 = eight k h (next-up k 7 l7 g) in
+  unfolding refusalSays mem
+  says-8 h a b c d e f g =
+      let l = simp (ne-eqb k 1 a, ne-eqb k 2 b, ne-eqb k 3 c, ne-eqb k 4 d, ne-eqb k 5 e, ne-eqb k 6 f, ne-eqb k 7 g) at h in
+      let q : k ≡ 8 = elim (mem-cons k 8 [] l) [ inl p ↦ p | inr p ↦ absurd (mem-none k p) ] in
       rw q
 
 pub overlap-says : (s w v i j x y : ℕ) → x ≡ W.variable w → y ≡ W.value w

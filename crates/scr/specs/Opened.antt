@@ -13,7 +13,6 @@ use Rattle.set.specs.ReadSet.{ReadSet}
 use Rattle.scr.specs.declared.opening.Index.{Index}
 use Rattle.scr.specs.declared.opening.Reading.{Reading}
 use Rattle.scr.specs.declared.opening.Reading.the-variants.{Set, Refused}
-use Rattle.scr.specs.declared.opening.Opened.{Opened}
 use Rattle.scr.specs.Answers.{refused}
 
 -- x is the index of the set that the words say
@@ -25,8 +24,8 @@ unfoldable pub ReadingAs : List ℕ → Reading → Index → Type 0
 ReadingAs ws Set x = IndexOf ws x
 ReadingAs ws (Refused q) x = readSet ws ≡ refused q
 
-unfoldable pub OpenedAs : List ℕ → Opened → Type 0
-OpenedAs ws o = ReadingAs ws (o .reading) (o .index)
+unfoldable pub OpenedAs : List ℕ → Index → Type 0
+OpenedAs ws x = ReadingAs ws (x .reading) x
 
 unfoldable pub isOk : {A : Type 0} → Outcome A → Bool
 isOk (ok a) = true

@@ -127,11 +127,11 @@ pub fn start(words: &[u32]) -> Answer
     ensures { λ r. ⌜ answerSays r ≡ startOf (now (words .entry)) ⌝ }
     ensures { λ r. ⌜ AnswersOrRefuses (answerSays r) (StartRefused (now (words .entry))) ⌝ }
 {
-    let o = open(words);
-    let reading = o.reading;
+    let index = open(words);
+    let reading = index.reading;
     match reading {
         Reading::Refused(q) => Answer::Refused(q),
-        Reading::Set => calls::start(words, o.index),
+        Reading::Set => calls::start(words, index),
     }
 }
 
@@ -141,11 +141,11 @@ pub fn check(words: &[u32]) -> Verdict
     ensures { λ r. ⌜ AnswersOrRefuses (verdictSays r) (Refused (now (words .entry))) ⌝ }
     ensures { λ r. ⌜ Demand2 (now (words .entry)) r ⌝ }
 {
-    let o = open(words);
-    let reading = o.reading;
+    let index = open(words);
+    let reading = index.reading;
     match reading {
         Reading::Refused(q) => Verdict::Refused(q),
-        Reading::Set => verdict(words, o.index),
+        Reading::Set => verdict(words, index),
     }
 }
 
@@ -156,11 +156,11 @@ pub fn step(words: &[u32], state: u32, event: u32) -> Answer
     ensures { λ r. ⌜ AnswersOrRefuses (answerSays r) (StepRefused (now (words .entry)) state event) ⌝ }
     ensures { λ r. ⌜ StepsExactly (now (words .entry)) state event r ⌝ }
 {
-    let o = open(words);
-    let reading = o.reading;
+    let index = open(words);
+    let reading = index.reading;
     match reading {
         Reading::Refused(q) => Answer::Refused(q),
-        Reading::Set => calls::step(words, o.index, state, event),
+        Reading::Set => calls::step(words, index, state, event),
     }
 }
 
@@ -172,11 +172,11 @@ pub fn run(words: &[u32], state: u32, events: &[u32], trace: &mut [u32], place: 
     ensures { λ r. ⌜ RunAnswers (now (words .entry)) state (now (events .entry)) (now (trace .entry)) place (answerSays r) (now (trace .exit)) ⌝ }
     ensures { λ r. ⌜ Demand3 (now (words .entry)) state (now (events .entry)) (now (trace .entry)) place (answerSays r) (now (trace .exit)) ⌝ }
 {
-    let o = open(words);
-    let reading = o.reading;
+    let index = open(words);
+    let reading = index.reading;
     match reading {
         Reading::Refused(q) => Answer::Refused(q),
-        Reading::Set => runs::run(words, o.index, state, events, &mut trace[..], place),
+        Reading::Set => runs::run(words, index, state, events, &mut trace[..], place),
     }
 }
 
@@ -186,11 +186,11 @@ pub fn values(words: &[u32], state: u32, out: &mut [Value]) -> Count
     ensures { λ r. ⌜ now (out .exit) ≡ lentValues (valuesOf (now (words .entry)) state (length (now (out .entry)))) (now (out .entry)) ⌝ }
     ensures { λ r. ⌜ AnswersOrRefuses (countSays r) (ValuesRefused (now (words .entry)) state (length (now (out .entry)))) ⌝ }
 {
-    let o = open(words);
-    let reading = o.reading;
+    let index = open(words);
+    let reading = index.reading;
     match reading {
         Reading::Refused(q) => Count::Refused(q),
-        Reading::Set => calls::values(words, o.index, state, &mut out[..]),
+        Reading::Set => calls::values(words, index, state, &mut out[..]),
     }
 }
 

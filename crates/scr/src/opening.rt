@@ -10,9 +10,16 @@ ghost use Rattle.scr.specs.Opened.{OpenedAs};
 // Elements of the list of places.
 const PLACES: usize = MAX_VARIABLES;
 
-// The index of a set: how many variables and states it has, where its first assertion stands, and by variable the place of its table, its
-// weight in a state's number, and the dependency order.
+// Does the set read?
+pub enum Reading {
+    Set,
+    Refused(Refusal),
+}
+
+// The reading of a set and, if it reads, its index: how many variables and states it has, where its first assertion stands, by variable the
+// place of its table and its weight in a state's number, and the dependency order. An enum that holds arrays would have to be proved by hand.
 pub struct Index {
+    pub reading: Reading,
     pub variables: usize,
     pub states: u32,
     pub assertions: usize,
@@ -21,36 +28,21 @@ pub struct Index {
     pub order: [usize; MAX_VARIABLES],
 }
 
-// Does the set read? The index stands beside it: an enum that holds arrays would have to be proved by hand.
-pub enum Reading {
-    Set,
-    Refused(Refusal),
-}
-
-pub struct Opened {
-    pub reading: Reading,
-    pub index: Index,
-}
-
-// No index.
-fn refused(q: Refusal) -> Opened
+fn refused(q: Refusal) -> Index
     ensures { λ r. ⌜ r .reading ≡ Reading.Refused q ⌝ }
 {
-    let index = Index {
+    Index {
+        reading: Reading::Refused(q),
         variables: 0,
         states: 0,
         assertions: 0,
         places: [0; PLACES],
         weights: [0; MAX_VARIABLES],
         order: [0; MAX_VARIABLES],
-    };
-    Opened {
-        reading: Reading::Refused(q),
-        index: index,
     }
 }
 
-pub fn open(words: &[u32]) -> Opened
+pub fn open(words: &[u32]) -> Index
     ensures { λ r. ⌜ OpenedAs (now (words .entry)) r ⌝ }
 {
     let mut places = [0usize; PLACES];
@@ -60,19 +52,14 @@ pub fn open(words: &[u32]) -> Opened
     match r {
         SetRead::Refused(k, x) => refused(refusals::reading(k, x)),
         SetRead::Cycle(v, m) => refused(refusals::cycle(v, m)),
-        SetRead::Set(n, a, c) => {
-            let index = Index {
-                variables: n,
-                states: c,
-                assertions: a,
-                places: places,
-                weights: weights,
-                order: order,
-            };
-            Opened {
-                reading: Reading::Set,
-                index: index,
-            }
-        }
+        SetRead::Set(n, a, c) => Index {
+            reading: Reading::Set,
+            variables: n,
+            states: c,
+            assertions: a,
+            places: places,
+            weights: weights,
+            order: order,
+        },
     }
 }

@@ -13,16 +13,19 @@ use simulator::Stepped;
 use word::given;
 use word::variable;
 ghost use mathlib.Core.Path.{_≡_};
+ghost use mathlib.Core.Bool.{true};
 ghost use mathlib.Core.List.{List, [], _∷_};
-ghost use Prim.Native.Nat.{ℕ, _≤_};
+ghost use Prim.Native.Nat.{ℕ};
+ghost use Rattle.meaning.specs.Answers.{typedNumbers};
+ghost use Rattle.meaning.specs.Searches.{mem};
 ghost use Rattle.meaning.specs.Steps.{inputOf};
 ghost use Rattle.simulator.specs.StepIndex.{steppedSays};
 ghost use Rattle.checker.specs.Sweeps.{faultIs};
 ghost use Rattle.scr.specs.Answers.{refusalSays, answerSays};
 
-// Refusals 1 to 8 carry one number each.
+// What reading refuses before the dependency order carries one number.
 pub fn reading(number: u32, carried: usize) -> Refusal
-    requires { ⌜ (1 ≤ number) × (number ≤ 8) ⌝ }
+    requires { ⌜ mem number typedNumbers ≡ true ⌝ }
     ensures { λ r. ⌜ refusalSays r ≡ (number, carried ∷ []) ⌝ }
 {
     match number {

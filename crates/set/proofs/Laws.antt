@@ -22,8 +22,7 @@ pub set-refused : (ws ps us os : List ℕ) (t : T.Typed) (k x : ℕ) → TypedAs
 unfolding SetAs TypedAs readSet
 set-refused ws ps us os t k x h e =
     let r : readTyped ws ≡ refuse k (x ∷ []) = subst (λ (y : T.Typed). TypedAs ws y ps us) e h in
-    let q = typed-number ws k (x ∷ []) r in
-    (rw r, q .0, q .1)
+    (rw r, typed-number ws k (x ∷ []) r)
 
 pub index-few : (ws ps us : List ℕ) (t : T.Typed) (n a c : ℕ) → TypedAs ws t ps us → t ≡ TV.Set n a c → n ≤ Max.max-variables
 unfolding TypedAs

@@ -1,4 +1,4 @@
-use Rattle.scr.proofs.Opened.{reading-low, reading-high, open-refused, open-cycle, open-set}
+use Rattle.scr.proofs.Opened.{reading-known, open-refused, open-cycle, open-set}
 use borrow.Author.Needs.{needs}
 use Rattle.scr.proofs.opening.open.Statement.{statement}
 use Rattle.scr.proofs.opening.open.Tie as tie
@@ -25,7 +25,7 @@ enum-known-r : tie.Need-enum-known-r
 enum-known-r c = search needs
 
 reading-requires : tie.Need-reading-requires
-reading-requires c κs = (search reading-low, search reading-high)
+reading-requires c κs = search reading-known
 
 refused-requires : tie.Need-refused-requires
 refused-requires c κs = search needs
