@@ -6,7 +6,6 @@ use crate::opening::Index;
 use crate::opening::Reading;
 use crate::opening::open;
 use crate::refusals;
-use index::PLACES;
 use simulator::Settled;
 use simulator::step_from;
 use simulator::values_in;

@@ -10,7 +10,6 @@ mod verdicts; // the verdict of a set that reads
 
 use crate::opening::Reading;
 use crate::opening::open;
-use index::PLACES;
 use part::part_end;
 use part::part_start;
 use verdicts::verdict;

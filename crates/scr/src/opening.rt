@@ -1,14 +1,12 @@
 // How every entry begins: the set is read, and what reading refuses becomes the entry's refusal.
 use crate::Refusal;
 use crate::refusals;
+use index::PLACES;
 use set::SetRead;
 use set::read_set;
 use word::MAX_VARIABLES;
 ghost use mathlib.Core.Path.{_≡_};
 ghost use Rattle.scr.specs.Opened.{OpenedAs};
-
-// Elements of the list of places.
-const PLACES: usize = MAX_VARIABLES;
 
 // Does the set read?
 pub enum Reading {
