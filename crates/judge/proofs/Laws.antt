@@ -13,6 +13,7 @@ use Rattle.word.specs.Limits as Max
 use Rattle.meaning.specs.Answers.{if_then_else_}
 use Rattle.meaning.specs.Reading.{word, testBy, testOf}
 use Rattle.meaning.specs.Steps.{true-in, modeIs}
+use Rattle.theory.specs.Loops.{left}
 use Rattle.judge.specs.declared.Judged.{Judged}
 use Rattle.judge.specs.declared.Got.{Got}
 use Rattle.judge.specs.declared.Got.the-variants.{Nothing, One, Two}
@@ -170,9 +171,6 @@ with-law g r w q x i k t m eq em ek er = rw (er, em, eq, ek)
 
 pub row-law : (ws : List ℕ) (w k at : ℕ) → w ≡ word ws at → k ≡ W.kind w → eqb k 3 ≡ eqb (W.kind (word ws at)) 3
 row-law ws w k at ew ek = rw (ek, ew)
-
-left : (n i : ℕ) → i < n → n - i ≡ suc (n - (i + 1))
-left n i h = omega arith
 
 -- f judges a row's formula: the conditions of a state, or the events of a step
 module _ (ws : List ℕ) (f : ℕ → Judged) (x : ℕ) where

@@ -5,9 +5,8 @@ use mathlib.Core.Bool.{Bool, true, false, not, _&&_, _||_, cond}
 use Prim.Native.Nat.{ℕ, zero, suc}
 use native.Mathlib.Omega.{arith}
 use native.Mathlib.Numerals.{add-one}
-use lib.ListN.{length, getD, length-append, List·getD-eq-default}
+use lib.ListN.{length, getD, length-append}
 use lib.Dec.{eqb, leb, ltb}
-use borrow.Author.Tests.{leb-true}
 use Rattle.word.specs.Fields as W
 use Rattle.word.specs.Limits as Max
 use Rattle.meaning.specs.Answers.{Parse, fine, stop, _>>>_, expect, if_then_else_}
@@ -15,6 +14,7 @@ use Rattle.meaning.specs.Searches.{mem, within, Hits, no-hit, one-hit, two-hits
 use Rattle.meaning.specs.Syntax.{Condition, constant, negation, Event, never, one-of, Variable, Row}
 use Rattle.meaning.specs.Reading.{Read, word, fits, testOk, testOf, conditionKinds, eventKinds, joined, changed, conditionBy, eventBy, rowOk, rowsBy, rowOf, wordAt, readCondition, readEvent, readRow, readRows}
 use Rattle.meaning.specs.Steps.{true-in, happens, modeIs, eventRow, conditionRow, rowHolds, rowValue}
+use Rattle.index.proofs.Laws.{past-unfit}
 use Rattle.judge.specs.declared.Judged.{Judged}
 use Rattle.judge.specs.declared.Got.{Got}
 use Rattle.judge.specs.declared.Got.the-variants.{Nothing}
@@ -30,12 +30,7 @@ module _ {A : Type 0} (Q : Parse A → Type 0) (stops : (n k : ℕ) → Q (stop 
   none-left (fine w) n i = stops n i
   none-left (stop k l) n i = stops k l
 
--- past the end no word fits
-past-unfit : (ws kinds : List ℕ) (i : ℕ) → mem 0 kinds ≡ false → leb (length ws) i ≡ true → fits kinds (word ws i) ≡ false
-unfolding fits W.kind word
-past-unfit ws kinds i z e = rw (List·getD-eq-default ws 0 (leb-true (length ws) i e), z)
-
--- so a word that fits stands before the end; Q is told whether the place does
+-- a word that fits stands before the end; Q is told whether the place does
 module _ {A : Type 0} (Q : Bool → Parse A → Type 0) (stops : (b : Bool) (n k : ℕ) → Q b (stop n k)) where
   inside : (ws kinds : List ℕ) (i : ℕ) → mem 0 kinds ≡ false → (next : ℕ → Parse A) → Q false (next (word ws i))
       → Q (leb (length ws) i) (wordAt ws kinds i >>> next)

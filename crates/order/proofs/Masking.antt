@@ -2,13 +2,13 @@
 -- What was scanned agrees with what was read, by the clauses of the reader; where reading stops nothing is said.
 use Prim.Native.Nat.{ℕ, zero, suc, _<_}
 use mathlib.Core.Path.{_≡_, refl, sym, _∙_, subst}
-use mathlib.Core.Bool.{Bool, true, false, _||_}
+use mathlib.Core.Bool.{Bool, true, false, _||_, or-false, or-assoc}
 use mathlib.Core.List.{List, [], _∷_}
 use native.Mathlib.Omega.{arith}
 use lib.Dec.{eqb, leb, ltb}
 use lib.Bits.{bitOr}
-use lib.ListN.{length, getD, List·getD-eq-default}
-use borrow.Author.Tests.{ne-eqb, leb-true}
+use lib.ListN.{length, getD}
+use borrow.Author.Tests.{ne-eqb}
 use Rattle.word.specs.Fields as W
 use Rattle.word.specs.Limits as Max
 use Rattle.meaning.specs.Answers.{fine, stop, _>>>_, expect, if_then_else_}
@@ -22,9 +22,11 @@ use Rattle.index.specs.Sources.{SourceAt, no-table, event-at, condition-at, sou
 use Rattle.theory.specs.Tests.{true-not-false}
 use Rattle.order.specs.declared.Masked.{Masked}
 use Rattle.index.specs.Bits.{bitIn, oneBit}
+use Rattle.index.proofs.Laws.{past-unfit}
+use Rattle.index.proofs.BitLaws.{zero-at, or-at, bit-of}
 use Rattle.order.specs.Masks.{nothingAt, bothFrom, firstFrom, conditionMaskBy, conditionMask, eventMaskBy, eventMask, formulaMask, rowsMask, tableMask}
 use Rattle.order.proofs.Scans.{rows-here}
-use Rattle.order.proofs.Bits.{or-none, or-assoc, eqb-swap, bit-zero, bit-or, bit-of}
+use Rattle.order.proofs.Bits.{eqb-swap}
 
 -- the same place after it, and a bit for each variable b that `sees` finds in it
 abbrev Agrees : {A : Type 0} → (ℕ → A → Bool) → Read A → Masked → Type 0
@@ -47,7 +49,7 @@ then-agrees seesA seesB seesC f g h rp rj ih (fine p) j e = rw (e .0) (go (rp (p
     go (fine q) a = (a .0, λ b l. h (p .0) (q .0) (j .mask) (rj (p .1) .mask) b (e .1 b l) (a .1 b l))
 
 or-bits : (x y : Bool) (m n b : ℕ) → x ≡ bitIn m b → y ≡ bitIn n b → x || y ≡ bitIn (bitOr m n) b
-or-bits x y m n b ex ey = rw (bit-or m n b, ex, ey)
+or-bits x y m n b ex ey = rw (or-at m n b, ex, ey)
 
 -- ---- conditions
 joined-tests : (s : Bool) (c d : Condition) (b : ℕ) → tests b (joined s c d) ≡ tests b c || tests b d
@@ -87,7 +89,7 @@ module _ (vs : List Variable) (rp : ℕ → Read Condition) (rj : ℕ → Masked
           else λ _. if z then (λ _. rj (suc i))
           else λ _. bothFrom rj (suc i))
       go true y z = test (testOk vs w)
-      go false true z = (refl, λ b l. sym (bit-zero b))
+      go false true z = (refl, λ b l. sym (zero-at b))
       go false false true = negated (rp (suc i)) (rj (suc i)) (ih (suc i))
       go false false false =
           then-agrees tests tests tests (joined (eqb (W.kind w) 6)) bitOr
@@ -106,7 +108,7 @@ module _ (rp : ℕ → Read Event) (rj : ℕ → Masked) (ih : (i : ℕ) → Agr
   event-by w i = go (eqb (W.kind w) 9) (eqb (W.kind w) 7)
     where
       none : (t : Bool) → Agrees changes (expect t 3 i >>> λ _. fine (never, suc i)) (nothingAt (suc i))
-      none true = (refl, λ b l. sym (bit-zero b))
+      none true = (refl, λ b l. sym (zero-at b))
       none false = tt
 
       change : (t : Bool)
@@ -134,10 +136,6 @@ module _ (rp : ℕ → Read Event) (rj : ℕ → Masked) (ih : (i : ℕ) → Agr
       go false false = change (within 1 2 (W.sort w))
 
 -- ---- levels: a word that fits is there
-no-word : (ws kinds : List ℕ) (i : ℕ) → mem 0 kinds ≡ false → leb (length ws) i ≡ true → fits kinds (word ws i) ≡ false
-unfolding fits W.kind word
-no-word ws kinds i k e = rw (List·getD-eq-default ws 0 (leb-true (length ws) i e), k)
-
 level : {A : Type 0} (sees : ℕ → A → Bool) (ws kinds : List ℕ) (i : ℕ) → mem 0 kinds ≡ false → (f : ℕ → Read A) (j : Masked)
     → Agrees sees (f (word ws i)) j → Agrees sees (wordAt ws kinds i >>> f) (if leb (length ws) i then (λ _. nothingAt i) else (λ _. j))
 unfolding wordAt
@@ -146,7 +144,7 @@ level sees ws kinds i k f j a = go (leb (length ws) i) refl (fits kinds (word ws
     go : (l : Bool) → leb (length ws) i ≡ l → (t : Bool) → fits kinds (word ws i) ≡ t
         → Agrees sees ((expect t 2 i >>> λ _. fine (word ws i)) >>> f) (if l then (λ _. nothingAt i) else (λ _. j))
     go l el false et = tt
-    go true el true et = absurd (true-not-false et (no-word ws kinds i k el))
+    go true el true et = absurd (true-not-false et (past-unfit ws kinds i k el))
     go false el true et = a
 
 no-level : {A : Type 0} (sees : ℕ → A → Bool) (ws kinds : List ℕ) (i : ℕ) (j : Masked) → Agrees sees (wordAt ws kinds i >>> λ w. stop 4 i) j
@@ -203,7 +201,7 @@ module _ {F : Type 0} (sees : ℕ → F → Bool) (ws : List ℕ) (vs : List Var
 
   row-past : (left p : ℕ) → leb (length ws) p ≡ true → readRow ws vs formula v c left p ≡ stop 2 p
   unfolding readRow wordAt mem
-  row-past left p e = rw (no-word ws (3 ∷ []) p refl e)
+  row-past left p e = rw (past-unfit ws (3 ∷ []) p refl e)
 
   row-over : (p : ℕ) (r : Row F × ℕ) → readRow ws vs formula v c 0 p ≡ fine r → ⊥
   unfolding readRow wordAt
@@ -228,10 +226,10 @@ module _ {F : Type 0} (sees : ℕ → F → Bool) (ws : List ℕ) (vs : List Var
           → RowsAgree sees first
           (if k then (λ _. o >>> λ q. fine (r .0 ∷ q .0, q .1)) else (λ _. fine (r .0 ∷ [], r .1)))
           (if k then (λ _. rowsMask ws t left (r .1) (bitOr first n)) else (λ _. bitOr first n))
-      more false r n h o a = λ b l. rw (or-none (seesRow b (r .0)), h b l) (sym (bit-or first n b))
+      more false r n h o a = λ b l. rw (or-false (seesRow b (r .0)), h b l) (sym (or-at first n b))
       more true r n h (stop k x) a = tt
       more true r n h (fine s) a = λ b l.
-          rw (or-assoc (bitIn first b) (seesRow b (r .0)) (anyRow (sees b) (s .0)), h b l, ← bit-or first n b) (a b l)
+          rw (← or-assoc (bitIn first b) (seesRow b (r .0)) (anyRow (sees b) (s .0)), h b l, ← or-at first n b) (a b l)
 
       go : (o : Read (Row F)) → Agrees seesRow o (formulaMask ws t (suc p)) → leb (length ws) p ≡ false
           → ((q a : ℕ) → RowsAgree sees a (readRows ws vs formula v c left q) (rowsMask ws t left q a))
@@ -259,11 +257,11 @@ module _ {F : Type 0} (sees : ℕ → F → Bool) (ws : List ℕ) (vs : List Var
 source-means : {ws : List ℕ} {vs : List Variable} {p : ℕ} {s : Source} → SourceAt ws vs p s → (b : ℕ) → b < Max.max-variables
     → readsBy s b ≡ bitIn (tableMask ws p) b
 unfolding readsBy tableMask bodyOf formulaMask
-source-means no-table b h = sym (bit-zero b)
+source-means no-table b h = sym (zero-at b)
 source-means {ws} {vs} (event-at i j rs n e) b h =
     rw (ne-eqb (W.sort (word ws i)) 3 n)
     (rows-read changes ws vs (readEvent ws vs Max.max-depth) (W.sort (word ws i)) (W.defined (word ws i)) (W.class-read (word ws i))
-    scanned Max.max-rows (suc i) 0 rs j e b h false (sym (bit-zero b)))
+    scanned Max.max-rows (suc i) 0 rs j e b h false (sym (zero-at b)))
   where
     scanned : (k : ℕ) → Agrees changes (readEvent ws vs Max.max-depth k) (formulaMask ws (W.sort (word ws i)) k)
     scanned k = rw (ne-eqb (W.sort (word ws i)) 3 n) (event-agrees ws vs Max.max-depth k)

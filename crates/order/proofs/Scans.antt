@@ -15,6 +15,7 @@ use Rattle.word.specs.Limits as Max
 use Rattle.meaning.specs.Answers.{if_then_else_}
 use Rattle.meaning.specs.Searches.{listOf}
 use Rattle.meaning.specs.Reading.{word}
+use Rattle.theory.specs.Loops.{left}
 use Rattle.index.specs.Bits.{oneBit}
 use Rattle.order.specs.declared.Masked.{Masked}
 use Rattle.order.specs.Masks.{nothingAt, conditionMaskBy, conditionMask, eventMaskBy, eventMask, formulaMask, rowsMask, tableMask, masksAt}
@@ -112,9 +113,6 @@ module _ (ws : List ℕ) (t at : ℕ) (r : Masked) where
   formula-event n er = rw (ne-eqb t 3 n) er
 
 -- ---- rows: what is left from here is the whole
-pub left : (n i : ℕ) → i < n → n - i ≡ suc (n - (i + 1))
-left n i h = omega arith
-
 rows-zero : (ws : List ℕ) (t p m : ℕ) → rowsMask ws t 0 p m ≡ m
 unfolding rowsMask
 rows-zero ws t p m = refl

@@ -14,8 +14,10 @@ use lib.ListN.{length, getD, set, take, length-take}
 use lib.Seq.{take-suc-set}
 use borrow.Author.Tests.{not-true, not-false, eq-eqb, ne-eqb}
 use Rattle.word.specs.Limits as Max
-use Rattle.meaning.specs.Searches.{orHere, least, orElse, all-below, iterate}
+use Rattle.meaning.specs.Searches.{least, orElse, all-below, iterate}
 use Rattle.meaning.specs.Order.{taking}
+use Rattle.theory.specs.Found.{least-here, least-on, least-end}
+use Rattle.theory.specs.Loops.{left}
 use Rattle.order.specs.declared.Found.{Found}
 use Rattle.order.specs.declared.Found.the-variants.{At, Nothing}
 use Rattle.order.specs.declared.Order.{Order}
@@ -23,7 +25,6 @@ use Rattle.order.specs.declared.Order.the-variants.{All, Cycle}
 use Rattle.index.specs.Bits.{bitIn, oneBit}
 use Rattle.order.specs.Masks.{masksAt}
 use Rattle.order.specs.Orders.{foundOf, cycleSaid, maskOf, covered, untakenBy, leastStuck, stuckRead, readyBy, leastReady, takeBy, orderBy, takenBy, moveBy, shownBy, homeBy, backBy, cycleOf, cycleBy, orderAt, noCycleAt}
-use Rattle.order.proofs.Scans.{left}
 
 -- ---- all-below and least, counted up
 both-false : (x y : Bool) → y ≡ false → x && y ≡ false
@@ -42,26 +43,6 @@ all-fails f (suc n) b h e = go (λ l. all-fails f n b l e) (decLe (suc b) n)
 all-on : (f : ℕ → Bool) (b : ℕ) → all-below f b ≡ true → f b ≡ true → all-below f (b + 1) ≡ true
 unfolding all-below
 all-on f b e t = rw (add-one b, all-below, e, t)
-
-least-keeps : (f : ℕ → Bool) (n k v : ℕ) → k ≤ n → least f k ≡ some v → least f n ≡ some v
-unfolding least orHere
-least-keeps f zero k v h e = let q : k ≡ 0 = omega arith in rw q at e
-least-keeps f (suc n) k v h e = go (λ l. least-keeps f n k v l e) (decLe k n)
-  where
-    go : (k ≤ n → least f n ≡ some v) → Dec (k ≤ n) → orHere (least f n) (f n) n ≡ some v
-    go ih (yes l) = rw (ih l)
-    go ih (no l) = let q : k ≡ suc n = omega arith in rw q at e
-
-least-here : (f : ℕ → Bool) (n v : ℕ) → v < n → least f v ≡ none → f v ≡ true → least f n ≡ some v
-unfolding least orHere
-least-here f n v h e t = least-keeps f n (suc v) v h (rw (e, t))
-
-least-on : (f : ℕ → Bool) (v : ℕ) → least f v ≡ none → f v ≡ false → least f (v + 1) ≡ none
-unfolding least orHere
-least-on f v e t = rw (add-one v, least, e, t)
-
-least-end : (f : ℕ → Bool) (n v : ℕ) → v ≤ n → n ≤ v → least f v ≡ none → least f n ≡ none
-least-end f n v h k e = let q : v ≡ n = omega arith in rw q at e
 
 pub least-start : (f : ℕ → Bool) → least f 0 ≡ none
 unfolding least

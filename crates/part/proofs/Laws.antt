@@ -1,18 +1,17 @@
 -- Scans for the lowest place that passes a test, and what they say of a table's part.
-use mathlib.Core.Path.{_≡_, refl, sym, _∙_, subst}
+use mathlib.Core.Path.{_≡_, refl, sym, _∙_}
 use mathlib.Core.Bool.{Bool, true, false, _&&_, _||_}
 use mathlib.Core.Option.{Option, none, some}
 use mathlib.Core.List.{List, []}
-use Prim.Native.Nat.{ℕ, zero, suc, _+_, _-_, _≤_, _<_}
+use Prim.Native.Nat.{ℕ, suc, _+_, _-_, _≤_, _<_}
 use native.Mathlib.Omega.{arith}
-use native.Mathlib.Numerals.{add-one}
 use lib.Dec.{eqb}
 use lib.ListN.{length, take, drop}
 use Rattle.word.specs.Fields as W
-use Rattle.meaning.specs.Searches.{least, orHere, orElse}
+use Rattle.meaning.specs.Searches.{least, orElse}
 use Rattle.meaning.specs.Reading.{word}
 use Rattle.meaning.specs.Calls.{isTableOf, endsTable, partLength, partFrom}
-use Rattle.theory.specs.Found.{LeastView, absent, found, least-view}
+use Rattle.theory.specs.Found.{LeastView, absent, found, least-view, least-on, least-found, least-none}
 use Rattle.part.specs.Part.{startAt, endAt}
 
 pub is-table-is : (ws : List ℕ) (v i w k d : ℕ) → w ≡ word ws i → k ≡ W.kind w → d ≡ W.defined w → (eqb k 2 && eqb d v) ≡ isTableOf ws v i
@@ -23,41 +22,13 @@ pub ends-table-is : (ws : List ℕ) (i w k : ℕ) → w ≡ word ws i → k ≡ 
 unfolding endsTable
 ends-table-is ws i w k ew ek = rw (ek, ew)
 
--- ---- the lowest so far: none below i
-module _ (f : ℕ → Bool) where
-  least-on : (i : ℕ) → least f i ≡ none → f i ≡ false → least f (suc i) ≡ none
-  unfolding least orHere
-  least-on i e t = rw (e, t)
-
-  least-here : (i : ℕ) → least f i ≡ none → f i ≡ true → least f (suc i) ≡ some i
-  unfolding least orHere
-  least-here i e t = rw (e, t)
-
-  least-kept : (n k : ℕ) → least f n ≡ some k → least f (suc n) ≡ some k
-  unfolding least orHere
-  least-kept n k e = rw e
-
-  least-more : (m k d : ℕ) → least f m ≡ some k → least f (d + m) ≡ some k
-  least-more m k zero e = let q : 0 + m ≡ m = omega arith in rw q e
-  least-more m k (suc d) e = let q : suc d + m ≡ suc (d + m) = omega arith in rw q (least-kept (d + m) k (least-more m k d e))
-
-  least-found : (n i : ℕ) → i < n → least f i ≡ none → f i ≡ true → orElse (least f n) n ≡ i
-  unfolding orElse
-  least-found n i h e t =
-      let q : n - suc i + suc i ≡ n = omega arith in
-      rw (subst (λ (m : ℕ). least f m ≡ some i) q (least-more (suc i) i (n - suc i) (least-here i e t)))
-
-  least-none : (n i : ℕ) → i ≤ n → n ≤ i → least f i ≡ none → orElse (least f n) n ≡ n
-  unfolding orElse
-  least-none n i h k e = let q : i ≡ n = omega arith in rw (rw q at e)
-
-  least-most : (n : ℕ) → orElse (least f n) n ≤ n
-  unfolding orElse
-  least-most n = go (least-view f n)
-    where
-      go : {o : Option ℕ} → LeastView f n o → orElse o n ≤ n
-      go (absent h) = omega arith
-      go (found k l t h) = omega arith
+least-most : (f : ℕ → Bool) (n : ℕ) → orElse (least f n) n ≤ n
+unfolding orElse
+least-most f n = go (least-view f n)
+  where
+    go : {o : Option ℕ} → LeastView f n o → orElse o n ≤ n
+    go (absent h) = omega arith
+    go (found k l t h) = omega arith
 
 -- ---- where a part starts
 module _ (ws : List ℕ) (v i : ℕ) (inv : least (isTableOf ws v) i ≡ none) (b : Bool) (eb : b ≡ isTableOf ws v i) where
@@ -66,7 +37,7 @@ module _ (ws : List ℕ) (v i : ℕ) (inv : least (isTableOf ws v) i ≡ none) (
   start-here h t = sym (least-found (isTableOf ws v) (length ws) i h inv (sym eb ∙ t))
 
   pub start-on : b ≡ false → least (isTableOf ws v) (i + 1) ≡ none
-  start-on t = rw (add-one i) (least-on (isTableOf ws v) i inv (sym eb ∙ t))
+  start-on t = least-on (isTableOf ws v) i inv (sym eb ∙ t)
 
 pub start-none : (ws : List ℕ) (v i : ℕ) → least (isTableOf ws v) i ≡ none → i ≤ length ws → length ws ≤ i → length ws ≡ startAt ws v
 unfolding startAt
@@ -90,7 +61,7 @@ module _ (ws : List ℕ) (a i : ℕ) (low : a + 1 ≤ i) (inv : least (Ends ws a
   pub end-on : (b : Bool) → b ≡ endsTable ws i → b ≡ false → least (Ends ws a) (i + 1 - (a + 1)) ≡ none
   end-on b eb t =
       let e : Ends ws a (i - (a + 1)) ≡ false = rw place (sym eb ∙ t) in
-      let q : i + 1 - (a + 1) ≡ suc (i - (a + 1)) = omega arith in
+      let q : i + 1 - (a + 1) ≡ i - (a + 1) + 1 = omega arith in
       rw q (least-on (Ends ws a) (i - (a + 1)) inv e)
 
   pub end-none : a < length ws → i ≤ length ws → length ws ≤ i → length ws ≡ endAt ws a

@@ -13,6 +13,7 @@ use Rattle.word.specs.Limits as Max
 use Rattle.meaning.specs.Searches.{mem}
 use Rattle.meaning.specs.Syntax.{Variable}
 use Rattle.meaning.specs.Reading.{word, fits, readCondition, readAssertion, readAssertions}
+use Rattle.theory.specs.Loops.{left}
 use Rattle.index.specs.declared.Reached.{Reached}
 use Rattle.index.specs.declared.Reached.the-variants.{Next, Refused}
 use Rattle.index.specs.Places.{reach, thenAt}
@@ -20,7 +21,6 @@ use Rattle.reader.specs.Formulas.{faultOf}
 use Rattle.reader.proofs.TestLaws.{kind-past}
 use Rattle.reader.proofs.Answers.{made-reach, two-reach, then-next, then-stop}
 use Rattle.reader.proofs.Faults.{tested, tested-refused, tested-passed, word-then}
-use Rattle.reader.proofs.VariableLaws.{left}
 
 -- ---- an assertion
 module _ (ws : List ℕ) (vs : List Variable) (l at : ℕ) where

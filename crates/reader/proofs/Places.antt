@@ -12,40 +12,27 @@ use lib.Seq.{getD-set-same, getD-set-other}
 use borrow.Author.Tests.{ne-eqb, eq-eqb, not-true}
 use Rattle.word.specs.Fields as W
 use Rattle.word.specs.Limits as Max
-use Rattle.meaning.specs.Answers.{Parse, fine, stop, _>>>_, expect, if_then_else_}
+use Rattle.meaning.specs.Answers.{fine, stop, _>>>_, expect, if_then_else_}
 use Rattle.meaning.specs.Syntax.{Event, Variable, Table, Body}
 use Rattle.meaning.specs.Lookup.{definedBy, tableOf, isSome, hasTable}
 use Rattle.meaning.specs.Reading.{Read, word, fits, tableOk, tableFits, bodyOf, eventTableBy, wordAt, readBody, readTable, readTables}
+use Rattle.theory.specs.Tests.{and-true}
+use Rattle.theory.specs.Found.{fine-same, then-fine, expect-fine}
 use Rattle.index.specs.declared.Reached.the-variants.{Next, Refused}
 use Rattle.index.specs.Places.{told, place-count}
 use Rattle.index.specs.Indexed.{Placed, absent, there}
 use Rattle.reader.specs.Tables.{isPlaced, readPlaces}
 use Rattle.reader.specs.Variables.{NoTables}
 use Rattle.reader.proofs.Faults.{word-then}
-use Rattle.reader.proofs.TableLaws.{conditionRows, eventRows, conditionTable, eventTable, second-of, defined-below}
+use Rattle.reader.proofs.TableLaws.{conditionRows, eventRows, conditionTable, eventTable, defined-below}
 
 -- each variable's entry against its table
 abbrev pub Places : List ℕ → List Variable → List Table → List ℕ → Type 0
 Places ws vs ts ps = (v : ℕ) → v < Max.max-variables → Placed ws vs (getD ps v 0) (tableOf ts v)
 
--- ---- what a reading that is fine says of its parts
-fine-not-stop : {A : Type 0} {a : A} {k i : ℕ} → _≡_ {A = Parse A} (fine a) (stop k i) → ⊥
-fine-not-stop e = let z : _≡_ {A = ℕ} 0 1 = cc in omega arith
-
-fine-same : {A : Type 0} {a b : A} → _≡_ {A = Parse A} (fine a) (fine b) → a ≡ b
-fine-same e = cc
-
-bind-fine : {A B : Type 0} (m : Parse A) (f : A → Parse B) (b : B) → m >>> f ≡ fine b → (a : A) × (m ≡ fine a) × (f a ≡ fine b)
-bind-fine (fine a) f b e = (a, refl, e)
-bind-fine (stop k i) f b e = absurd (fine-not-stop (sym e))
-
-expect-fine : (b : Bool) (k i : ℕ) (u : Unit {0}) → expect b k i ≡ fine u → b ≡ true
-expect-fine true k i u e = refl
-expect-fine false k i u e = absurd (fine-not-stop (sym e))
-
 word-read : (ws kinds : List ℕ) (i w : ℕ) → wordAt ws kinds i ≡ fine w → word ws i ≡ w
 unfolding wordAt
-word-read ws kinds i w e = fine-same (bind-fine (expect (fits kinds (word ws i)) 2 i) _ w e .2)
+word-read ws kinds i w e = fine-same (then-fine (expect (fits kinds (word ws i)) 2 i) _ w e .2)
 
 -- ---- one entry
 module _ (ws : List ℕ) (vs : List Variable) where
@@ -104,10 +91,10 @@ module _ (ws : List ℕ) (vs : List Variable) where
       go : (b : Bool) → (if b then (λ _. conditionTable ws vs w i) else (λ _. eventTable ws vs w i)) ≡ fine (t, j)
           → definedBy t ≡ W.defined w
       go true e =
-          let d = bind-fine (conditionRows ws vs w i) _ (t, j) e in
+          let d = then-fine (conditionRows ws vs w i) _ (t, j) e in
           sym (ap (λ (p : Table × ℕ). definedBy (p .0)) (fine-same (d .2)))
       go false e =
-          let d = bind-fine (eventRows ws vs w i) _ (t, j) e in
+          let d = then-fine (eventRows ws vs w i) _ (t, j) e in
           sym (ap (λ (p : Table × ℕ). definedBy (p .0)) (fine-same (d .2))) ∙ event-defines _ (bodyOf w (d .0 .0))
 
   record TableRead (i j : ℕ) (taken : Bool) (t : Table) : Type 0 where
@@ -119,13 +106,13 @@ module _ (ws : List ℕ) (vs : List Variable) where
   unfolding readTable
   table-read i j taken t e =
       let w = word ws i in
-      let a = bind-fine (wordAt ws (2 ∷ []) i) _ (t, j) e in
+      let a = then-fine (wordAt ws (2 ∷ []) i) _ (t, j) e in
       let ew : w ≡ a .0 = word-read ws (2 ∷ []) i (a .0) (a .1) in
       let e′ = rw (← ew) at (a .2) in
-      let b = bind-fine (expect (tableOk vs w) 3 i) _ (t, j) e′ in
-      let c = bind-fine (expect (tableFits vs w && not taken) 5 i) _ (t, j) (b .2) in
+      let b = then-fine (expect (tableOk vs w) 3 i) _ (t, j) e′ in
+      let c = then-fine (expect (tableFits vs w && not taken) 5 i) _ (t, j) (b .2) in
       record {
-        free = not-true taken (second-of (tableFits vs w) (not taken) (expect-fine _ 5 i _ (c .1)));
+        free = not-true taken (and-true (tableFits vs w) (not taken) (expect-fine _ 5 i _ (c .1)) .1);
         below = defined-below vs w (expect-fine _ 3 i _ (b .1));
         body-read = c .2;
       }

@@ -14,6 +14,7 @@ use Rattle.meaning.specs.Answers.{fine, _>>>_, if_then_else_}
 use Rattle.meaning.specs.Searches.{mem}
 use Rattle.meaning.specs.Syntax.{Condition, Event, Variable, Row}
 use Rattle.meaning.specs.Reading.{Read, word, fits, rowOk, rowOf, rowsBy, readCondition, readEvent, readRow, readRows}
+use Rattle.theory.specs.Loops.{left}
 use Rattle.index.specs.declared.Reached.{Reached}
 use Rattle.index.specs.declared.Reached.the-variants.{Next, Refused}
 use Rattle.index.specs.Places.{reach, thenAt}
@@ -21,7 +22,6 @@ use Rattle.reader.specs.Formulas.{faultOf, byType, formulaReach, rowReac
 use Rattle.reader.proofs.TestLaws.{kind-past}
 use Rattle.reader.proofs.Answers.{then-reach, made-reach, then-next, then-stop}
 use Rattle.reader.proofs.Faults.{tested, tested-refused, tested-passed, word-then}
-use Rattle.reader.proofs.VariableLaws.{left}
 
 -- ---- the formula of a row
 module _ (ws : List ℕ) (vs : List Variable) (t at : ℕ) (r : Reached) where

@@ -7,13 +7,15 @@ use native.Mathlib.Omega.{arith}
 use native.Mathlib.Numerals.{add-one}
 use lib.Dec.{eqb, ltb}
 use lib.ListN.{length, getD, set}
-use borrow.Author.Tests.{ne-eqb, eq-eqb, ltb-true}
+use borrow.Author.Tests.{ne-eqb, eq-eqb}
 use Rattle.word.specs.Fields as W
 use Rattle.word.specs.Limits as Max
 use Rattle.meaning.specs.Answers.{Parse, fine, stop, _>>>_, if_then_else_}
 use Rattle.meaning.specs.Searches.{mem, within}
 use Rattle.meaning.specs.Syntax.{Condition, Event, Variable, Row, Table, condition-table}
 use Rattle.meaning.specs.Reading.{Read, word, fits, tableOk, tableFits, bodyOf, eventTableBy, wordAt, readCondition, readEvent, readRows, readBody, readTable}
+use Rattle.theory.specs.Tests.{and-true, ltb-true}
+use Rattle.theory.specs.Loops.{left}
 use Rattle.index.specs.declared.Reached.{Reached}
 use Rattle.index.specs.declared.Reached.the-variants.{Next, Refused}
 use Rattle.index.specs.Places.{reach, told, place-count, variablesTo}
@@ -23,7 +25,6 @@ use Rattle.reader.specs.Tables.{isPlaced, readPlaces}
 use Rattle.reader.proofs.TestLaws.{kind-past}
 use Rattle.reader.proofs.Answers.{made-reach, refused-not-next}
 use Rattle.reader.proofs.Faults.{tested, tested-refused, tested-passed, word-then}
-use Rattle.reader.proofs.VariableLaws.{left}
 
 -- ---- a table: its rows as the meaning reads them, and the table made of them
 module _ (ws : List ℕ) (vs : List Variable) (w i : ℕ) where
@@ -91,19 +92,11 @@ module _ (ws : List ℕ) (vs : List Variable) (at : ℕ) (ps : List ℕ) where
 pub ruleset table-laws = (table-past, table-fault, table-on)
 
 -- ---- a table that was read is of a variable that is there
-first-of : (a b : Bool) → a && b ≡ true → a ≡ true
-first-of true b e = refl
-first-of false b e = e
-
-pub second-of : (a b : Bool) → a && b ≡ true → b ≡ true
-second-of true b e = e
-second-of false b e = absurd (let z : _≡_ {A = ℕ} 0 1 = cc in omega arith)
-
 pub defined-below : (vs : List Variable) (w : ℕ) → tableOk vs w ≡ true → W.defined w < length vs
 unfolding tableOk
 defined-below vs w e =
-    ltb-true (W.defined w) (length vs)
-    (second-of (within 1 3 (W.sort w)) (ltb (W.defined w) (length vs)) (first-of _ (eqb (W.class-read w) Max.any || ltb (W.class-read w) (length vs)) e))
+    let a = and-true _ (eqb (W.class-read w) Max.any || ltb (W.class-read w) (length vs)) e in
+    ltb-true (and-true (within 1 3 (W.sort w)) (ltb (W.defined w) (length vs)) (a .0) .1)
 
 module _ (ws : List ℕ) (vs : List Variable) (at : ℕ) (taken : Bool) (j : ℕ) where
   not-in-range : (f b : Bool) → fits (2 ∷ []) (word ws at) ≡ f → tableOk vs (word ws at) ≡ b

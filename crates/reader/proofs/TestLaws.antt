@@ -1,6 +1,6 @@
 -- Laws of the tests of one word: what the code works out from a word's fields is what the meaning asks of the word.
-use mathlib.Core.Path.{_≡_, refl}
-use mathlib.Core.Bool.{Bool, true, false, not, _&&_, _||_}
+use mathlib.Core.Path.{_≡_}
+use mathlib.Core.Bool.{Bool, not, _&&_, _||_, or-false}
 use mathlib.Core.List.{List, [], _∷_}
 use Prim.Native.Nat.{ℕ, _≤_}
 use lib.Dec.{eqb, leb, ltb}
@@ -13,10 +13,6 @@ use Rattle.meaning.specs.Lookup.{variableAt}
 use Rattle.meaning.specs.Reading.{word, fits, conditionKinds, eventKinds, variableOk, testOk, rowOk, tableOk, tableFits}
 use Rattle.index.specs.Places.{variablesTo}
 use Rattle.index.proofs.Laws.{past-end, variables-length}
-
-or-false : (b : Bool) → b || false ≡ b
-or-false true = refl
-or-false false = refl
 
 module _ (w k : ℕ) (clear : Bool) (ek : k ≡ W.kind w) (ec : clear ≡ W.spare-clear w) where
   pub one-kind : (kind : ℕ) → (eqb k kind && clear) ≡ fits (kind ∷ []) w

@@ -14,15 +14,12 @@ use Rattle.word.specs.Limits as Max
 use Rattle.meaning.specs.Answers.{fine, stop}
 use Rattle.meaning.specs.Syntax.{Variable}
 use Rattle.meaning.specs.Reading.{word, variableOk, readVariables}
+use Rattle.theory.specs.Loops.{left}
 use Rattle.index.specs.Places.{place-count, headOf, variablesTo}
 use Rattle.index.proofs.Laws.{variables-same}
 use Rattle.reader.specs.declared.Words.the-variants.{Read, Wrong}
 use Rattle.reader.specs.Variables.{NoTables, VariablesAs}
 use Rattle.reader.specs.Typed.{noPlaces}
-
--- one turn fewer
-pub left : (n i : ℕ) → i < n → n - i ≡ suc (n - (i + 1))
-left n i h = omega arith
 
 -- ---- the places as they come, and with one more
 pub places-long : (ps : List ℕ) → ps ≡ noPlaces → length ps ≡ place-count

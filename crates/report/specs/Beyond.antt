@@ -1,25 +1,20 @@
 -- Input beyond the words that are looked at changes nothing that is printed: a program may read so many bytes and no more.
 use mathlib.Core.Path.{_≡_, refl}
 use mathlib.Core.List.{List}
-use Prim.Native.Nat.{ℕ, zero, suc, _+_, _*_, _/_, _<_, _≤_, min}
+use Prim.Native.Nat.{ℕ, _+_, _*_, _/_, _≤_, min}
 use native.Mathlib.Omega.{arith}
 use native.Mathlib.Decide.{decLe}
 use lib.ListN.{length, take}
 use lib.Seq.{take-all, length-take-le, getD-take}
 use borrow.Author.Tests.{le-leb}
 use Rattle.word.specs.Limits as Max
-use Rattle.meaning.specs.Searches.{listOf}
 use Rattle.meaning.specs.Host.{wordOfBytes}
 use Rattle.meaning.specs.Program.{inputWord, inputWords, programOf}
+use Rattle.theory.specs.Loops.{list-same}
 
 -- bytes of the words that are looked at
 abbrev pub max-input : ℕ
 max-input = Max.max-input-words * 4
-
-list-same : (f g : ℕ → ℕ) (n : ℕ) → ((i : ℕ) → i < n → f i ≡ g i) → listOf f n ≡ listOf g n
-unfolding listOf
-list-same f g zero h = refl
-list-same f g (suc n) h = rw (list-same f g n (λ i l. h i (omega arith)), h n (omega arith))
 
 -- a word that ends within the first m bytes
 word-same : (bs : List ℕ) (m i : ℕ) → i * 4 + 4 ≤ m → m ≤ length bs → inputWord (take m bs) i ≡ inputWord bs i

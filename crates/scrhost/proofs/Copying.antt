@@ -7,9 +7,7 @@ use native.Mathlib.Numerals.{add-one}
 use lib.ListN.{length, take, set}
 use lib.Seq.{take-suc-set}
 use Rattle.meaning.specs.Host.{wordOfBytes, wordsOfBytes}
-
-left : (n i : ℕ) → i < n → n - i ≡ suc (n - (i + 1))
-left n i h = omega arith
+use Rattle.theory.specs.Loops.{left}
 
 words-on : (bs : List ℕ) (n i : ℕ) → i < n
     → wordsOfBytes bs (n - i) i ≡ wordOfBytes bs (i * 4) ∷ wordsOfBytes bs (n - (i + 1)) (i + 1)
