@@ -5,7 +5,7 @@ rt tries each crates/CRATE/must-fail/*.edit in one run of the prover and calls t
 edits, each with a line that says what must fail:
 
     must: LABEL FILE NAME        the definition NAME of FILE, a proof file or a file of cases, is refused
-    must: LABEL fn FUNCTION      the function, which has no proof file, is left without a proof
+    must: LABEL fn FUNCTION      a fact of the function, which has no proof file, is left open
 
 Contracts shield callers: what a function's body does shows in its own proof file and nowhere else. So edits of different functions may share a run.
 This program holds them to it: after `rt ci`, or `rt must-fail`, it reads the logs and asks that
@@ -53,7 +53,7 @@ def edits_of(path):
 
 
 def failed_facts(log, run):
-    """The (file, definition) pairs of the log at which a fact fails, and the functions left without a proof."""
+    """The (file, definition) pairs of the log at which a fact fails, and the functions without a proof file that have an open one."""
     facts, bare = set(), set()
     for line in log.splitlines():
         error = re.match(r"(\S+?):\d+:\d+: error: `([^`]+)`: (.*)", line)
@@ -61,7 +61,7 @@ def failed_facts(log, run):
             path, name, said = error.groups()
             if not any(empty in said for empty in EMPTY):
                 facts.add((path.split(f"/{run}/", 1)[-1], name))
-        function = re.match(r"fn (\S+): no proof", line)
+        function = re.match(r"fn (\S+): no proof: .*does not close", line)
         if function:
             bare.add(function.group(1))
     return facts, bare

@@ -22,7 +22,8 @@ new: d
 LOG = """/t/must-fail/x/1/proofs/a/Proof.antt:3:4: error: `returns`: `search`: no proof of `p` was found.
 /t/must-fail/x/1/proofs/a/Proof.antt:9:4: error: `a-spec`: `returns` was not admitted (it has holes), so this cannot be checked
 /t/must-fail/x/1/proofs/b/Proof.antt:3:4: error: `loop-again`: the two types differ
-fn x::c: no proof was found
+fn x::c: no proof: expected `c-spec` in /t/must-fail/x/1/proofs/c/Proof.antt; `search` does not close `returns`
+fn x::e: no proof: expected `e-spec` in /t/must-fail/x/1/proofs/e/Proof.antt; it calls `x::a`, which is not proved
 """
 
 
@@ -55,7 +56,8 @@ class Refused(unittest.TestCase):
 
     def test_a_function_without_a_proof_file(self):
         self.assertEqual(faults(TWO.replace("proofs/b/Proof.antt loop-again", "fn x::c"), of_code=False), [])
-        self.assertIn("does not fail", faults(TWO.replace("proofs/b/Proof.antt loop-again", "fn x::d"), of_code=False)[0])
+        for other in ("fn x::d", "fn x::e"):
+            self.assertIn("does not fail", faults(TWO.replace("proofs/b/Proof.antt loop-again", other), of_code=False)[0])
 
     def test_an_edit_without_a_line(self):
         self.assertIn("without a 'must:' line", faults(TWO.replace("must: first proofs/a/Proof.antt returns\n", ""))[0])
