@@ -9,7 +9,7 @@
  * else is asked of a caller. Every content and every length has an answer. The bytes are only read, and not after the return.
  *
  * No state is kept between calls: both functions give the same answer for the same arguments, and threads may call them at the same time,
- * on the same bytes too as long as nobody writes to them. No heap is used; scr_check takes up to about 280 KiB of stack, scr_step about 24 KiB. Both
+ * on the same bytes too as long as nobody writes to them. No heap is used; scr_check takes up to about 340 KiB of stack, scr_step about 24 KiB. Both
  * always return.
  *
  * Refusals, by their numbers:

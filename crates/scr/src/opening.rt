@@ -15,7 +15,8 @@ pub enum Reading {
 }
 
 // The reading of a set and, if it reads, its index: how many variables and states it has, where its first assertion stands, by variable the
-// place of its table and its weight in a state's number, and the dependency order. An enum that holds arrays would have to be proved by hand.
+// places of its table and its word and its weight in a state's number, and the dependency order. An enum that holds arrays would have to be
+// proved by hand.
 pub struct Index {
     pub reading: Reading,
     pub variables: usize,
