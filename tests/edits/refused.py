@@ -13,6 +13,8 @@ This program holds them to it: after `rt ci`, or `rt must-fail`, it reads the lo
 - every edit has such a line, and no two edits of a crate the same label;
 - the edits of one run name different files, and no fact fails in a file that none of them names;
 - each line is met by a fact that fails, not by a name that is missing or by something else that was refused before it.
+
+    python3 tests/edits/refused.py [CRATE...]      all crates, or those named
 """
 
 import re
@@ -81,11 +83,13 @@ def judged(edits, facts, bare, of_code):
     return faults
 
 
-def main():
+def main(crates):
     refused, bad = 0, 0
     labels = set()
     for path in sorted(ROOT.glob("crates/*/must-fail/*.edit")):
         crate, run = path.parts[-3], path.stem
+        if crates and crate not in crates:
+            continue
         edits, faults = edits_of(path)
         for e in edits:
             if (crate, e.label) in labels:
@@ -110,4 +114,4 @@ def main():
 
 
 if __name__ == "__main__":
-    sys.exit(main())
+    sys.exit(main(sys.argv[1:]))
