@@ -1,12 +1,13 @@
--- Which refusal a word gets that is wrong in two ways, and every limit from both sides, by computation. Demand 1 takes refusals 2 to 5
--- from the readers themselves, so these cases are what tells them from readers that try a word in another order.
+-- Which refusal a word gets that is wrong in two ways, every limit from both sides, and which words are a table, by computation.
+-- Demand 1 takes refusals 2 to 5 from the readers themselves, so these cases are what tells them from readers that try a word in
+-- another order.
 use Prim.Native.Nat.{ℕ, zero, suc}
 use mathlib.Core.Path.{_≡_, refl}
 use mathlib.Core.List.{List, [], _∷_, _++_}
 use lib.ListN.{replicate}
 use Rattle.meaning.specs.Answers.{Outcome, ok, refuse}
 use Rattle.meaning.specs.Run.{runOf}
-use Rattle.meaning.specs.Calls.{startOf}
+use Rattle.meaning.specs.Calls.{startOf, rowsOf}
 use Rattle.meaning.specs.Opened.{meaning}
 
 -- n times the same words
@@ -27,6 +28,11 @@ row = 0x3FF00000 ∷ 0x90000001 ∷ []
 -- an input, an output and its event table, up to before the formula of its first row
 abbrev event : List ℕ
 event = 0x11002000 ∷ 0x14002000 ∷ 0x2201FF00 ∷ 0x3FF00000 ∷ []
+
+-- the same event table whole, with words of every kind that a table has: @T(not Input=0 and true) WHEN Input=0 or false
+abbrev eventTable : List ℕ
+eventTable =
+    0x2201FF00 ∷ 0x3FF00001 ∷ 0x81000000 ∷ 0x60000000 ∷ 0x50000000 ∷ 0x40000000 ∷ 0x90000001 ∷ 0x70000000 ∷ 0x40000000 ∷ 0x90000000 ∷ []
 
 abbrev assertion : List ℕ
 assertion = 0xA1000000 ∷ 0x90000001 ∷ []
@@ -91,6 +97,12 @@ pub record ReadingCases : Type 0 where
   -- nor is it an event: of 4,096 the first is refused
   pub events-most : runOf input 0 (replicate 4096 0) (replicate 4096 9) 0 .answer ≡ refuse 16 (0 ∷ [])
   pub events-too-many : runOf input 0 (replicate 4097 0) (replicate 4097 9) 0 .answer ≡ refuse 17 (4097 ∷ [])
+  -- ---- the words of a table: before the end, before an assertion, before another table
+  pub rows-to-the-end : rowsOf (0x11002000 ∷ 0x14002000 ∷ eventTable) 1 ≡ eventTable
+  pub rows-to-an-assertion : rowsOf (0x11002000 ∷ 0x14002000 ∷ (eventTable ++ assertion)) 1 ≡ eventTable
+  pub rows-to-a-table : rowsOf (0x11002000 ∷ 0x14002000 ∷ 0x13002000 ∷ (eventTable ++ (0x2302FF00 ∷ row))) 1 ≡ eventTable
+  pub rows-of-the-second : rowsOf (0x11002000 ∷ 0x14002000 ∷ 0x13002000 ∷ (eventTable ++ (0x2302FF00 ∷ row))) 2 ≡ 0x2302FF00 ∷ row
+  pub rows-of-an-input : rowsOf (0x11002000 ∷ 0x14002000 ∷ eventTable) 0 ≡ []
 
 pub reading-cases : ReadingCases
 unfolding meaning
@@ -138,4 +150,9 @@ reading-cases = record {
   row-value-too-big = refl;
   events-most = refl;
   events-too-many = refl;
+  rows-to-the-end = refl;
+  rows-to-an-assertion = refl;
+  rows-to-a-table = refl;
+  rows-of-the-second = refl;
+  rows-of-an-input = refl;
 }

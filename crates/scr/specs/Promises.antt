@@ -1,19 +1,24 @@
 -- What the entries promise beside their equations.
-use Prim.Native.Nat.{ℕ, _<_}
+use Prim.Native.Nat.{ℕ, _≤_, _<_}
 use mathlib.Core.Path.{_≡_}
 use mathlib.Core.Logic.{_↔_}
 use mathlib.Core.Bool.{true}
 use mathlib.Core.List.{List}
+use lib.ListN.{length}
+use lib.Seq.{sets}
 use Rattle.meaning.specs.Syntax.{TableSet}
-use Rattle.meaning.specs.States.{stateCount}
+use Rattle.meaning.specs.Lookup.{count}
+use Rattle.meaning.specs.States.{Values, stateCount}
 use Rattle.meaning.specs.Steps.{inputOf, enabledWord}
 use Rattle.meaning.specs.Answers.{ok, refuse}
 use Rattle.meaning.specs.Check.{Counts, counts}
+use Rattle.meaning.specs.Valued.{OneValuation}
 use Rattle.meaning.specs.Moved.{Clean}
 use Rattle.meaning.specs.Passes.{Reads, Passes, Refused}
 use Rattle.scr.specs.declared.Answer.{Answer}
 use Rattle.scr.specs.declared.Verdict.{Verdict}
-use Rattle.scr.specs.Answers.{answerSays, verdictSays}
+use Rattle.scr.specs.declared.Count.{Count}
+use Rattle.scr.specs.Answers.{answerSays, verdictSays, countSays}
 
 -- Demand 2, of check: "A set passes exactly if it reads, its tables have a dependency order, no condition table has a gap or an overlap at a
 -- typed state, no mode or event table an overlap at a typed step, and each assertion holds initially and is kept by every step under
@@ -33,3 +38,10 @@ abbrev pub StepsExactly : List ℕ → ℕ → ℕ → Answer → Type 0
 StepsExactly ws s w r =
     (s′ : ℕ) → (answerSays r ≡ ok s′)
     ↔ ((z : TableSet) × Reads ws z × (s < stateCount z) × (enabledWord z s w ≡ true) × Clean z s (inputOf w) s′)
+
+-- The same of values: it answers that k values are written exactly if the set reads, s is one of its typed states, there is room for a value of each
+-- of its k variables, and the state has one valuation, met without a gap or an overlap. Then that valuation is what it has written.
+pub record ValuesExactly (ws : List ℕ) (s : ℕ) (lent : List ℕ) (r : Count) (after : List ℕ) : Type 0 where
+  pub answers : (k : ℕ) → (countSays r ≡ ok k)
+      ↔ ((z : TableSet) × (a : Values) × Reads ws z × (count z ≤ length lent) × (s < stateCount z) × OneValuation z s a × (k ≡ count z))
+  pub written : (z : TableSet) (a : Values) → Reads ws z → count z ≤ length lent → s < stateCount z → OneValuation z s a → after ≡ sets lent 0 a

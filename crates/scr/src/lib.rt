@@ -17,6 +17,7 @@ use word::Value;
 ghost use mathlib.Core.Path.{_≡_};
 ghost use Prim.Native.Nat.{ℕ};
 ghost use lib.ListN.{length};
+ghost use Rattle.meaning.specs.Answers.{startNumbers, checkNumbers, stepNumbers, valuesNumbers};
 ghost use Rattle.meaning.specs.Calls.{startOf, valuesOf, lentValues, rowsOf};
 ghost use Rattle.meaning.specs.Steps.{stepOf};
 ghost use Rattle.meaning.specs.Run.{runOf};
@@ -25,7 +26,7 @@ ghost use Rattle.meaning.specs.Demand1.{StartRefused, StepRefused, ValuesRefuse
 ghost use Rattle.meaning.specs.Demand3.{Demand3};
 ghost use Rattle.meaning.specs.Check.{checkOf};
 ghost use Rattle.scr.specs.Answers.{answerSays, verdictSays, countSays, countOf};
-ghost use Rattle.scr.specs.Promises.{Demand2, StepsExactly};
+ghost use Rattle.scr.specs.Promises.{Demand2, StepsExactly, ValuesExactly};
 
 // ---- answers
 
@@ -100,7 +101,7 @@ pub enum Answer {
     Refused(Refusal),
 }
 
-// What a pass carries: the states and the steps tried, and the assertions.
+// What a pass carries: how many typed states, typed steps and assertions the set has.
 pub struct Counts {
     pub states: u32,
     pub steps: u64,
@@ -124,7 +125,7 @@ pub enum Count {
 // The initial state, or the first of refusals 1 to 9.
 pub fn start(words: &[u32]) -> Answer
     ensures { λ r. ⌜ answerSays r ≡ startOf (now (words .entry)) ⌝ }
-    ensures { λ r. ⌜ AnswersOrRefuses (answerSays r) (StartRefused (now (words .entry))) ⌝ }
+    ensures { λ r. ⌜ AnswersOrRefuses (answerSays r) startNumbers (StartRefused (now (words .entry))) ⌝ }
 {
     let index = open(words);
     let reading = index.reading;
@@ -134,10 +135,11 @@ pub fn start(words: &[u32]) -> Answer
     }
 }
 
-// The word that a set may be loaded: all typed states and all typed steps are tried, and every assertion.
+// The word that a set may be loaded. Every typed state, every typed step and every assertion counts; which steps are looked at singly is the
+// filter's matter (crate filter).
 pub fn check(words: &[u32]) -> Verdict
     ensures { λ r. ⌜ verdictSays r ≡ checkOf (now (words .entry)) ⌝ }
-    ensures { λ r. ⌜ AnswersOrRefuses (verdictSays r) (Refused (now (words .entry))) ⌝ }
+    ensures { λ r. ⌜ AnswersOrRefuses (verdictSays r) checkNumbers (Refused (now (words .entry))) ⌝ }
     ensures { λ r. ⌜ Demand2 (now (words .entry)) r ⌝ }
 {
     let index = open(words);
@@ -152,7 +154,7 @@ pub fn check(words: &[u32]) -> Verdict
 // and the event word is enabled.
 pub fn step(words: &[u32], state: u32, event: u32) -> Answer
     ensures { λ r. ⌜ answerSays r ≡ stepOf (now (words .entry)) state event ⌝ }
-    ensures { λ r. ⌜ AnswersOrRefuses (answerSays r) (StepRefused (now (words .entry)) state event) ⌝ }
+    ensures { λ r. ⌜ AnswersOrRefuses (answerSays r) stepNumbers (StepRefused (now (words .entry)) state event) ⌝ }
     ensures { λ r. ⌜ StepsExactly (now (words .entry)) state event r ⌝ }
 {
     let index = open(words);
@@ -179,11 +181,13 @@ pub fn run(words: &[u32], state: u32, events: &[u32], trace: &mut [u32], place: 
     }
 }
 
-// The values of a state, one a variable at the front of a lent list; elements beyond keep their content.
+// The values of a state, one a variable at the front of a lent list; elements beyond keep their content. They are written exactly if they are the
+// one valuation of the state, met without gap or overlap.
 pub fn values(words: &[u32], state: u32, out: &mut [Value]) -> Count
     ensures { λ r. ⌜ countSays r ≡ countOf (valuesOf (now (words .entry)) state (length (now (out .entry)))) ⌝ }
     ensures { λ r. ⌜ now (out .exit) ≡ lentValues (valuesOf (now (words .entry)) state (length (now (out .entry)))) (now (out .entry)) ⌝ }
-    ensures { λ r. ⌜ AnswersOrRefuses (countSays r) (ValuesRefused (now (words .entry)) state (length (now (out .entry)))) ⌝ }
+    ensures { λ r. ⌜ AnswersOrRefuses (countSays r) valuesNumbers (ValuesRefused (now (words .entry)) state (length (now (out .entry)))) ⌝ }
+    ensures { λ r. ⌜ ValuesExactly (now (words .entry)) state (now (out .entry)) r (now (out .exit)) ⌝ }
 {
     let index = open(words);
     let reading = index.reading;
@@ -193,8 +197,8 @@ pub fn values(words: &[u32], state: u32, out: &mut [Value]) -> Count
     }
 }
 
-// The rows of a variable's table, as a part of the caller's words from its table word on; the empty part if the set does not read or has
-// no such table.
+// The rows of a variable's table, as a part of the caller's words: those that reading the table took, its table word first; the empty part
+// if the set does not read or has no such table.
 pub fn rows(words: &[u32], variable: u32) -> &[u32]
     ensures { λ r. ⌜ now r ≡ rowsOf (now (words .entry)) variable ⌝ }
     ensures { λ r. ⌜ RowsAnswers (now (words .entry)) variable (now r) ⌝ }

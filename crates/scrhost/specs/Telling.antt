@@ -5,12 +5,14 @@ use mathlib.Core.Logic.{_↔_}
 use mathlib.Core.Bool.{Bool, true, false}
 use mathlib.Core.List.{List, [], _∷_}
 use native.Mathlib.Omega.{arith}
-use lib.Dec.{eqb}
+use lib.Dec.{leb, eqb}
 use lib.ListN.{length}
-use Rattle.meaning.specs.Answers.{Outcome, ok, refuse, _>>=_, demand}
+use Rattle.meaning.specs.Answers.{Outcome, ok, refuse, _>>=_, demand, checkNumbers}
+use Rattle.meaning.specs.Searches.{mem}
 use Rattle.meaning.specs.Check.{Counts, checkOf}
 use Rattle.meaning.specs.Steps.{stepOf}
 use Rattle.meaning.specs.Host.{wordsOfBytes, hostWords, passed, stepped, hostCheckOf, hostStepOf}
+use Rattle.theory.specs.Tests.{leb-true, all-of, mem-passes}
 use Rattle.theory.specs.Found.{ok-not-refuse, refuse-same, bind-ok}
 use Rattle.theory.specs.WellRead.{read-well-formed, states-few}
 use Rattle.theory.specs.Orders.{order-exists}
@@ -20,12 +22,14 @@ use Rattle.theory.specs.StepExactly.{step-exactly}
 
 -- ---- check
 host-positive : (bs : List ℕ) (n : ℕ) (xs : List ℕ) → (hostWords bs >>= λ ws. checkOf ws) ≡ refuse n xs → 1 ≤ n
-unfolding hostWords
+unfolding hostWords all-of mem
 host-positive bs n xs = go (eqb (length bs % 4) 0)
   where
     go : (b : Bool)
         → (demand b 1 (length bs ∷ []) >>= (λ _. ok (wordsOfBytes bs (length bs / 4) 0)) >>= λ ws. checkOf ws) ≡ refuse n xs → 1 ≤ n
-    go true e = let d = demand-1 .check (wordsOfBytes bs (length bs / 4) 0) in d .numbered n xs (d .refuses n xs .0 e) .0
+    go true e =
+        let d = demand-1 .check (wordsOfBytes bs (length bs / 4) 0) in
+        leb-true (mem-passes (leb 1) checkNumbers n refl (d .numbered n xs (d .refuses n xs .0 e)))
     go false e = omega (arith, refuse-same e .0)
 
 pass-told : {A : Type 0} (m : Outcome A) → ((n : ℕ) (xs : List ℕ) → m ≡ refuse n xs → 1 ≤ n) → (passed m ≡ 0) ↔ ((a : A) × (m ≡ ok a))

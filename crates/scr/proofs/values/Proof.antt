@@ -1,4 +1,4 @@
-use Rattle.scr.proofs.Demanded.{values-demand}
+use Rattle.scr.proofs.Demanded.{values-demand, values-shown}
 use Rattle.scr.proofs.Entering.{index-of, values-refused, kept-refused}
 use borrow.Author.Needs.{needs}
 use Rattle.scr.proofs.values.Statement.{statement}
@@ -21,13 +21,14 @@ values-requires : tie.Need-values-requires
 values-requires c κs = search index-of
 
 returns : tie.Need-returns
-returns c = (search values-refused, (search kept-refused, search (values-demand, values-refused)))
+returns c =
+    (search values-refused, (search kept-refused, (search (values-demand, values-refused), values-shown _ _ _ _ _ (search values-refused) (search kept-refused))))
 
 same-length : tie.Need-same-length
 same-length c = search needs
 
 returns-2 : tie.Need-returns-2
-returns-2 c = (search needs, (search needs, search (values-demand, needs)))
+returns-2 c = (search needs, (search needs, (search (values-demand, needs), values-shown _ _ _ _ _ (search needs) (search needs))))
 
 pub values-spec : {M : Type 1} → statement M
 values-spec =
