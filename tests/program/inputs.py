@@ -1,4 +1,5 @@
-"""Two inputs of the program whose last words show, since each event has its line: the stored one and the biggest. Called by itself, writes the stored one:
+"""Inputs of the program whose last words show, since each event has its line: the stored one, the biggest, and one with the longest output. Called by itself,
+writes the stored one:
 
     python3 tests/program/inputs.py > crates/scrcheck/stdin
     tests/oracle/target/release/oracle program < crates/scrcheck/stdin > crates/scrcheck/stdout"""
@@ -12,7 +13,8 @@ from common import ROOT
 from explain.source import as_bytes, from_text
 from explain.words import MOST_EVENTS
 from sets import some
-from words import MODE_CLASS, MODE_TABLE, MONITORED, assertion, equals, event, rises, row, table, variable
+from words import CONDITION_TABLE, EVENT_TABLE, FALSE, MODE_CLASS, MODE_TABLE, MONITORED, NONE, TERM, TRUE
+from words import assertion, equals, event, rises, row, table, variable
 
 GUARD, START = 0, 1
 # What is turned, again and again: document 01's three events first, and in all a way through the eight states that Set A reaches.
@@ -65,6 +67,17 @@ def level_events():
             level = (level + 5) % LEVELS
             events.append(event(LEVEL, level))
     return events
+
+
+def longest_output():
+    """Each number printed has as many digits as it can have, but for the number of assertions, with which the oracle's time grows. Ten terms that are always 0
+    stand before the input, and a term that stays 255 after it."""
+    terms, turned, kept = range(10), 10, 11
+    words = [variable(TERM, 2) for _ in terms] + [variable(MONITORED, 256, 255), variable(TERM, 256, 255)]
+    for term in terms:
+        words += [table(CONDITION_TABLE, term), *row(NONE, 0, TRUE)]
+    words += [table(EVENT_TABLE, kept), *row(NONE, 0, FALSE)]
+    return as_bytes(words + [event(turned, (254, 255)[i % 2]) for i in range(MOST_EVENTS)])
 
 
 if __name__ == "__main__":

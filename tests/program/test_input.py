@@ -1,6 +1,7 @@
 """That the program reads all of its input (the first 32,768 bytes) however it comes, and writes all of its output: what it prints is byte by byte what the
 oracle's program prints. No contract says so of `main`."""
 import fcntl
+import functools
 import itertools
 import os
 import signal
@@ -10,13 +11,13 @@ import termios
 import time
 import unittest
 
-from inputs import biggest, stored
+from inputs import biggest, longest_output, stored
 from common import ORACLE, PROVED, ROOT
 
 if not os.path.exists(PROVED):
     sys.exit("build the program first: rt check scrcheck")
 
-STORED, BIGGEST = stored(), biggest()
+STORED, BIGGEST, LONGEST = stored(), biggest(), longest_output()
 # Bytes handed over at a time, again and again. Most break a word.
 PIECES = (1, 3, 4096, 5, 2, 4099, 7, 1000)
 
@@ -25,6 +26,7 @@ def printed(command, given):
     return subprocess.run(command, input=given, stdout=subprocess.PIPE, check=True).stdout
 
 
+@functools.cache
 def expected(given):
     return printed([ORACLE, "program"], given)
 
@@ -96,6 +98,13 @@ class Input(unittest.TestCase):
         self.assertEqual(len(BIGGEST), 4 * (4096 + 4096))
         self.all_done(BIGGEST)
 
+    def test_the_longest_output(self):
+        self.assertEqual(len(expected(LONGEST)), 72640)
+        self.all_done(LONGEST)
+
+    def test_output_taken_late(self):
+        self.same(printed_by_short_writes(LONGEST), LONGEST)
+
     def test_what_stands_beyond_is_ignored(self):
         for more in (b"\1", BIGGEST[-4:], bytes(40000)):
             output = printed([PROVED], BIGGEST + more)
@@ -116,9 +125,6 @@ class Input(unittest.TestCase):
         self.same(printed([PROVED], b""), b"")
         # No standard input at all: a read that fails counts as the end.
         self.same(printed(["sh", "-c", 'exec "$0" <&-', PROVED], b""), b"")
-
-    def test_output_taken_late(self):
-        self.same(printed_by_short_writes(BIGGEST), BIGGEST)
 
 
 if __name__ == "__main__":
