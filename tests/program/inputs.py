@@ -1,5 +1,5 @@
-"""Inputs of the program whose last words show, since each event has its line: the stored one, the biggest, and one with the longest output. Called by itself,
-writes the stored one:
+"""Inputs of the program whose last words show, since each event has its line: the stored one, the biggest, and one with the longest output.
+Called by itself, writes the stored one:
 
     python3 tests/program/inputs.py > crates/scrcheck/stdin
     tests/oracle/target/release/oracle program < crates/scrcheck/stdin > crates/scrcheck/stdout"""
@@ -43,7 +43,8 @@ def biggest():
 
 
 def full_set():
-    """Two inputs, a mode class, 64 rows of 32 words and 32 assertions of 64, the last of 60. No two rows hold in one step: they differ in mode or in level."""
+    """Two inputs, a mode class, 64 rows of 32 words and 32 assertions of 64, the last of 60. No two rows hold in one step: they differ in mode or
+    in level."""
     words = [variable(MONITORED, LEVELS), variable(MONITORED, 2), variable(MODE_CLASS, MODES), table(MODE_TABLE, MODE, MODE)]
     for mode in range(MODES):
         for level in range(LEVELS):
@@ -70,8 +71,8 @@ def level_events():
 
 
 def longest_output():
-    """Each number printed has as many digits as it can have, but for the number of assertions, with which the oracle's time grows. Ten terms that are always 0
-    stand before the input, and a term that stays 255 after it."""
+    """Each number printed has as many digits as it can have, but for the number of assertions, with which the oracle's time grows. Ten terms that
+    are always 0 stand before the input, and a term that stays 255 after it."""
     terms, turned, kept = range(10), 10, 11
     words = [variable(TERM, 2) for _ in terms] + [variable(MONITORED, 256, 255), variable(TERM, 256, 255)]
     for term in terms:
