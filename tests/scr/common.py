@@ -9,7 +9,7 @@ ORACLE = os.path.join(ROOT, "tests", "oracle", "target", "release", "oracle")
 PROVED = os.path.join(ROOT, "target", "bin", "scrcheck")
 
 if not os.path.exists(ORACLE):
-    sys.exit("tests/scr: build the oracle first: (cd tests/oracle && cargo build --offline --release)")
+    sys.exit("build the oracle first: (cd tests/oracle && cargo build --offline --release)")
 
 # The proved program joins in wherever it has been built.
 PROGRAMS = [f"{ORACLE} program"] + [PROVED] * os.path.exists(PROVED)

@@ -1,4 +1,5 @@
-// The program: a set and its events from standard input, checked and run. What it prints is report's, byte by byte.
+// The program: a set and its events from standard input, checked and run. What it prints is report's, byte by byte. That all of the input is read and
+// all of the output written is tested (tests/program): no contract says it.
 use libc::STDIN_FILENO;
 use libc::STDOUT_FILENO;
 
