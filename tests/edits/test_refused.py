@@ -51,6 +51,11 @@ class Refused(unittest.TestCase):
         self.assertIn("which no edit names", faults(TWO.split("\n\n")[0])[0])
         self.assertEqual(faults(TWO.split("\n\n")[0], of_code=False), [])
 
+    def test_an_edit_of_a_proof_file_is_of_code(self):
+        self.assertTrue(refused.only_code(TWO + "file: proofs/b/Proof.antt\n"))
+        for other in ("proofs/Laws.antt", "specs/Text.antt"):
+            self.assertFalse(refused.only_code(TWO + f"file: {other}\n"))
+
     def test_two_edits_of_one_function(self):
         self.assertIn("two edits of one run", faults(TWO.replace("proofs/b", "proofs/a"))[0])
 

@@ -1,18 +1,18 @@
 // Decimal numbers, put into a buffer from a place on. Each function gives the place after what it put.
 ghost use mathlib.Core.Path.{_≡_};
-ghost use mathlib.Core.List.{[], _∷_, _++_};
+ghost use mathlib.Core.List.{[], _∷_};
 ghost use Prim.Native.Nat.{ℕ, _+_, _<_, _≤_};
 ghost use lib.ListN.{length};
 ghost use Rattle.meaning.specs.Program.{digitsOf, decimal};
 ghost use Rattle.report.specs.Room as Room;
-ghost use Rattle.report.specs.Text.{upTo};
+ghost use Rattle.report.specs.Text.{Puts};
 
 // No number of 64 bits has more digits.
 pub const MAX_DIGITS: usize = 20;
 
 pub fn put(out: &mut [u8], at: usize, byte: u8) -> usize
     requires { ⌜ at < length (now out) ⌝ }
-    ensures { λ r. ⌜ upTo r (now (out .exit)) ≡ upTo at (now (out .entry)) ++ (byte ∷ []) ⌝ }
+    ensures { λ r. ⌜ Puts (byte ∷ []) (now (out .entry)) at (now (out .exit)) r ⌝ }
     ensures { λ r. ⌜ r ≡ at + 1 ⌝ }
 {
     out[at] = byte;
@@ -22,7 +22,7 @@ pub fn put(out: &mut [u8], at: usize, byte: u8) -> usize
 // At most `left` digits, the highest first: those before the last are put by a call of itself.
 fn put_digits(out: &mut [u8], at: usize, n: u64, left: usize) -> usize
     requires { ⌜ at + left ≤ length (now out) ⌝ }
-    ensures { λ r. ⌜ upTo r (now (out .exit)) ≡ upTo at (now (out .entry)) ++ digitsOf left n ⌝ }
+    ensures { λ r. ⌜ Puts (digitsOf left n) (now (out .entry)) at (now (out .exit)) r ⌝ }
     ensures { λ r. ⌜ r ≤ at + left ⌝ }
 {
     if left == 0 {
@@ -39,7 +39,7 @@ fn put_digits(out: &mut [u8], at: usize, n: u64, left: usize) -> usize
 
 pub fn put_number(out: &mut [u8], at: usize, n: u64) -> usize
     requires { ⌜ at + Room.max-digits ≤ length (now out) ⌝ }
-    ensures { λ r. ⌜ upTo r (now (out .exit)) ≡ upTo at (now (out .entry)) ++ decimal n ⌝ }
+    ensures { λ r. ⌜ Puts (decimal n) (now (out .entry)) at (now (out .exit)) r ⌝ }
     ensures { λ r. ⌜ r ≤ at + Room.max-digits ⌝ }
 {
     put_digits(out, at, n, MAX_DIGITS)

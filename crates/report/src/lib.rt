@@ -13,11 +13,12 @@ use scr::Verdict;
 use word::MAX_EVENTS;
 ghost use mathlib.Core.Path.{_≡_};
 ghost use Prim.Native.Nat.{ℕ, _≤_};
-ghost use lib.ListN.{length, take, drop};
+ghost use lib.ListN.{length, take};
+ghost use lib.Seq.{sets};
 ghost use Rattle.meaning.specs.Check.{checkOf};
 ghost use Rattle.meaning.specs.Program.{printed, programOf};
 ghost use Rattle.report.specs.Room as Room;
-ghost use Rattle.report.specs.Text.{upTo};
+ghost use Rattle.report.specs.Text.{Puts};
 ghost use Rattle.report.specs.Whole.{printedOf};
 
 // The words of the input that are looked at, and their bytes.
@@ -38,7 +39,7 @@ pub const MAX_OUTPUT: usize = LINE + MAX_EVENTS * EVENT_LINE + LINE;
 // What is printed of a set and its events. "A set that check refuses is not run."
 fn put_set(out: &mut [u8], set: &[u32], events: &[u32]) -> usize
     requires { ⌜ Room.output ≤ length (now out) ⌝ }
-    ensures { λ r. ⌜ upTo r (now (out .exit)) ≡ printed (now (set .entry)) (now (events .entry)) (checkOf (now (set .entry))) ⌝ }
+    ensures { λ r. ⌜ Puts (printed (now (set .entry)) (now (events .entry)) (checkOf (now (set .entry)))) (now (out .entry)) 0 (now (out .exit)) r ⌝ }
     ensures { λ r. ⌜ r ≤ Room.output ⌝ }
 {
     let verdict = scr::check(set);
@@ -54,17 +55,18 @@ fn put_set(out: &mut [u8], set: &[u32], events: &[u32]) -> usize
 // "Words from the first of kind 11 on are events."
 fn put_words(out: &mut [u8], words: &[u32]) -> usize
     requires { ⌜ Room.output ≤ length (now out) ⌝ }
-    ensures { λ r. ⌜ upTo r (now (out .exit)) ≡ printedOf (now (words .entry)) ⌝ }
+    ensures { λ r. ⌜ Puts (printedOf (now (words .entry))) (now (out .entry)) 0 (now (out .exit)) r ⌝ }
     ensures { λ r. ⌜ r ≤ Room.output ⌝ }
 {
     let k = parts::first_event(words);
     put_set(out, &words[0..k], &words[k..])
 }
 
-// What the program prints, at the front of `out`; how many bytes.
+// What the program prints, at the front of `out`, whose other bytes stay as they were; how many bytes it is.
 pub fn report(bytes: &[u8], out: &mut [u8]) -> usize
     requires { ⌜ Room.output ≤ length (now out) ⌝ }
-    ensures { λ r. ⌜ take r (now (out .exit)) ≡ programOf (now (bytes .entry)) ⌝ }
+    ensures { λ r. ⌜ now (out .exit) ≡ sets (now (out .entry)) 0 (programOf (now (bytes .entry))) ⌝ }
+    ensures { λ r. ⌜ r ≡ length (programOf (now (bytes .entry))) ⌝ }
     ensures { λ r. ⌜ (r ≤ length (now (out .exit))) × (r ≡ length (take r (now (out .exit)))) ⌝ }
 {
     let mut words = [0u32; MAX_INPUT_WORDS];

@@ -9,19 +9,19 @@ use scr::telling::tell;
 use word::value;
 use word::variable;
 ghost use mathlib.Core.Path.{_≡_};
-ghost use mathlib.Core.List.{[], _∷_, _++_};
+ghost use mathlib.Core.List.{_∷_};
 ghost use Prim.Native.Nat.{ℕ, _+_, _*_, _≤_};
 ghost use lib.ListN.{length};
 ghost use Rattle.meaning.specs.Reading.{word};
 ghost use Rattle.meaning.specs.Program as P;
 ghost use Rattle.scr.specs.Answers.{refusalSays};
-ghost use Rattle.report.specs.Text.{upTo};
+ghost use Rattle.report.specs.Text.{Puts};
 ghost use Rattle.report.specs.Lines.{countsOf};
 ghost use Rattle.report.specs.Room as Room;
 
 fn put_name(out: &mut [u8], at: usize, name: &[u8]) -> usize
     requires { ⌜ at + length (now name) ≤ length (now out) ⌝ }
-    ensures { λ r. ⌜ upTo r (now (out .exit)) ≡ upTo at (now (out .entry)) ++ now (name .entry) ⌝ }
+    ensures { λ r. ⌜ Puts (now (name .entry)) (now (out .entry)) at (now (out .exit)) r ⌝ }
     ensures { λ r. ⌜ r ≡ at + length (now (name .entry)) ⌝ }
 {
     let mut on = at;
@@ -34,7 +34,7 @@ fn put_name(out: &mut [u8], at: usize, name: &[u8]) -> usize
 // A blank, and the number.
 fn put_field(out: &mut [u8], at: usize, n: u64) -> usize
     requires { ⌜ at + Room.field ≤ length (now out) ⌝ }
-    ensures { λ r. ⌜ upTo r (now (out .exit)) ≡ upTo at (now (out .entry)) ++ (32 ∷ P.decimal n) ⌝ }
+    ensures { λ r. ⌜ Puts (32 ∷ P.decimal n) (now (out .entry)) at (now (out .exit)) r ⌝ }
     ensures { λ r. ⌜ r ≤ at + Room.field ⌝ }
 {
     let on = put(out, at, b' ');
@@ -44,7 +44,7 @@ fn put_field(out: &mut [u8], at: usize, n: u64) -> usize
 // A field for each number, and the line feed.
 fn put_fields(out: &mut [u8], at: usize, numbers: &[u64]) -> usize
     requires { ⌜ at + (length (now numbers) * Room.field + 1) ≤ length (now out) ⌝ }
-    ensures { λ r. ⌜ upTo r (now (out .exit)) ≡ upTo at (now (out .entry)) ++ P.fields (now (numbers .entry)) ⌝ }
+    ensures { λ r. ⌜ Puts (P.fields (now (numbers .entry))) (now (out .entry)) at (now (out .exit)) r ⌝ }
     ensures { λ r. ⌜ r ≤ at + (length (now (numbers .entry)) * Room.field + 1) ⌝ }
 {
     let mut on = at;
@@ -56,7 +56,7 @@ fn put_fields(out: &mut [u8], at: usize, numbers: &[u64]) -> usize
 
 pub fn put_pass(out: &mut [u8], at: usize, c: Counts) -> usize
     requires { ⌜ at + Room.line ≤ length (now out) ⌝ }
-    ensures { λ r. ⌜ upTo r (now (out .exit)) ≡ upTo at (now (out .entry)) ++ P.passLine (countsOf c) ⌝ }
+    ensures { λ r. ⌜ Puts (P.passLine (countsOf c)) (now (out .entry)) at (now (out .exit)) r ⌝ }
     ensures { λ r. ⌜ r ≤ at + Room.line ⌝ }
 {
     let numbers = [c.states as u64, c.steps, c.assertions as u64];
@@ -67,7 +67,7 @@ pub fn put_pass(out: &mut [u8], at: usize, c: Counts) -> usize
 // The number of the refusal, then what it carries.
 pub fn put_refusal(out: &mut [u8], at: usize, q: Refusal) -> usize
     requires { ⌜ at + Room.line ≤ length (now out) ⌝ }
-    ensures { λ r. ⌜ upTo r (now (out .exit)) ≡ upTo at (now (out .entry)) ++ P.refuseLine (refusalSays q .0) (refusalSays q .1) ⌝ }
+    ensures { λ r. ⌜ Puts (P.refuseLine (refusalSays q .0) (refusalSays q .1)) (now (out .entry)) at (now (out .exit)) r ⌝ }
     ensures { λ r. ⌜ r ≤ at + Room.line ⌝ }
 {
     let t = tell(q);
@@ -81,7 +81,7 @@ pub fn put_refusal(out: &mut [u8], at: usize, q: Refusal) -> usize
 // The line of event i, after which the state is s.
 fn put_event(out: &mut [u8], at: usize, events: &[u32], i: usize, s: u32) -> usize
     requires { ⌜ at + Room.event ≤ length (now out) ⌝ }
-    ensures { λ r. ⌜ upTo r (now (out .exit)) ≡ upTo at (now (out .entry)) ++ P.eventLine i (word (now (events .entry)) i) s ⌝ }
+    ensures { λ r. ⌜ Puts (P.eventLine i (word (now (events .entry)) i) s) (now (out .entry)) at (now (out .exit)) r ⌝ }
     ensures { λ r. ⌜ r ≤ at + Room.event ⌝ }
 {
     let w = word_at(events, i);
@@ -93,7 +93,7 @@ fn put_event(out: &mut [u8], at: usize, events: &[u32], i: usize, s: u32) -> usi
 // A line for each state reached.
 pub fn put_events(out: &mut [u8], at: usize, events: &[u32], states: &[u32]) -> usize
     requires { ⌜ at + length (now states) * Room.event ≤ length (now out) ⌝ }
-    ensures { λ r. ⌜ upTo r (now (out .exit)) ≡ upTo at (now (out .entry)) ++ P.eventLines 0 (now (events .entry)) (now (states .entry)) ⌝ }
+    ensures { λ r. ⌜ Puts (P.eventLines 0 (now (events .entry)) (now (states .entry))) (now (out .entry)) at (now (out .exit)) r ⌝ }
     ensures { λ r. ⌜ r ≤ at + length (now (states .entry)) * Room.event ⌝ }
 {
     let mut on = at;

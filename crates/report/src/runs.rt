@@ -6,13 +6,12 @@ use scr::Answer;
 use scr::Refusal;
 use word::MAX_EVENTS;
 ghost use mathlib.Core.Path.{_≡_};
-ghost use mathlib.Core.List.{_++_};
 ghost use Prim.Native.Nat.{ℕ, _+_, _*_, _≤_};
 ghost use lib.ListN.{length};
 ghost use Rattle.meaning.specs.Calls.{startOf};
 ghost use Rattle.meaning.specs.Program.{runFromStart};
 ghost use Rattle.scr.specs.Answers.{refusalSays, answerSays};
-ghost use Rattle.report.specs.Text.{upTo};
+ghost use Rattle.report.specs.Text.{Puts};
 ghost use Rattle.report.specs.Room as Room;
 ghost use Rattle.report.specs.Runs.{Passed, doneBefore, ranLines};
 
@@ -30,7 +29,7 @@ fn done_before(q: Refusal) -> usize
 // The lines of a run of a set that passes, by its answer and by the states that it wrote.
 fn put_ran(out: &mut [u8], at: usize, events: &[u32], states: &[u32], answer: Answer) -> usize
     requires { ⌜ at + length (now states) * Room.event + Room.line ≤ length (now out) ⌝ }
-    ensures { λ r. ⌜ upTo r (now (out .exit)) ≡ upTo at (now (out .entry)) ++ ranLines (now (events .entry)) (now (states .entry)) (answerSays answer) ⌝ }
+    ensures { λ r. ⌜ Puts (ranLines (now (events .entry)) (now (states .entry)) (answerSays answer)) (now (out .entry)) at (now (out .exit)) r ⌝ }
     ensures { λ r. ⌜ r ≤ at + length (now (states .entry)) * Room.event + Room.line ⌝ }
 {
     match answer {
@@ -45,7 +44,7 @@ fn put_ran(out: &mut [u8], at: usize, events: &[u32], states: &[u32], answer: An
 // The run from the initial state.
 pub fn put_run(out: &mut [u8], at: usize, set: &[u32], events: &[u32]) -> usize
     requires { ⌜ (at + Room.run ≤ length (now out)) × Passed (now set) ⌝ }
-    ensures { λ r. ⌜ upTo r (now (out .exit)) ≡ upTo at (now (out .entry)) ++ runFromStart (now (set .entry)) (now (events .entry)) (startOf (now (set .entry))) ⌝ }
+    ensures { λ r. ⌜ Puts (runFromStart (now (set .entry)) (now (events .entry)) (startOf (now (set .entry)))) (now (out .entry)) at (now (out .exit)) r ⌝ }
     ensures { λ r. ⌜ r ≤ at + Room.run ⌝ }
 {
     let initial = scr::start(set);

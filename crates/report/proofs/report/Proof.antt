@@ -1,5 +1,7 @@
 use Rattle.report.proofs.Reporting.{reported, counted}
 use borrow.Author.Needs.{needs}
+use mathlib.Core.Path.{sym}
+use lib.Seq.{length-take-le}
 use Rattle.report.proofs.report.Statement.{statement}
 use Rattle.report.proofs.report.Tie as tie
 use Rattle.report.proofs.report.Reads as reads
@@ -29,7 +31,7 @@ same-length : tie.Need-same-length
 same-length c = search needs
 
 returns : tie.Need-returns
-returns c = (search reported, (search needs, search counted))
+returns c = (search reported, (search counted, (search needs, sym (length-take-le _ _ (search needs)))))
 
 pub report-spec : {M : Type 1} → statement M
 report-spec =

@@ -1,4 +1,4 @@
-use Rattle.report.proofs.Numbers.{put-one}
+use Rattle.report.proofs.Putting.{put-one}
 use borrow.Author.Needs.{needs}
 use Rattle.report.proofs.decimal.put.Statement.{statement}
 use Rattle.report.proofs.decimal.put.Tie as tie

@@ -1,12 +1,11 @@
 use borrow.Author.Needs.{needs}
 use Rattle.report.proofs.Printing.{events-on, events-end}
 use mathlib.Core.Path.{_≡_, refl}
-use mathlib.Core.List.{_++_}
 use Prim.Native.Nat.{_≤_, _+_, _-_, _*_}
 use lib.ListN.{length, drop}
 use Rattle.meaning.specs.Program.{eventLines}
 use Rattle.report.specs.Room as Room
-use Rattle.report.specs.Text.{upTo}
+use Rattle.report.specs.Text.{buffer, _with_}
 use Rattle.report.proofs.lines.put_events.Statement.{statement}
 use Rattle.report.proofs.lines.put_events.Tie as tie
 use Rattle.report.proofs.lines.put_events.Reads as reads
@@ -14,7 +13,7 @@ use Rattle.report.proofs.lines.put_events.Lts as lts
 use Rattle.report.proofs.lines.put_event.Reads as put-event-reads
 
 abbrev Inv-loop : tie.InvT-loop
-Inv-loop out₀ at events states on₀ i₀ i-end out on i = (i ≤ length states) × (on ≤ at + i * Room.event) × (length out ≡ length out₀) × (upTo on out ++ eventLines i events (drop i states) ≡ upTo at out₀ ++ eventLines 0 events states)
+Inv-loop out₀ at events states on₀ i₀ i-end out on i = (i ≤ length states) × (on ≤ at + i * Room.event) × (length out ≡ length out₀) × (buffer out on with eventLines i events (drop i states) ≡ buffer out₀ at with eventLines 0 events states)
 
 abbrev μ-loop : tie.MeasureT-loop
 μ-loop out₀ at events states on₀ i₀ i-end out on i = length states - i

@@ -1,11 +1,10 @@
 use borrow.Author.Needs.{needs}
 use Rattle.report.proofs.Printing.{fields-on, fields-end}
 use mathlib.Core.Path.{_≡_, refl}
-use mathlib.Core.List.{_++_}
 use Prim.Native.Nat.{_≤_, _+_, _-_, _*_}
 use lib.ListN.{length, drop}
 use Rattle.meaning.specs.Program.{fields}
-use Rattle.report.specs.Text.{upTo}
+use Rattle.report.specs.Text.{buffer, _with_}
 use Rattle.report.proofs.lines.put_fields.Statement.{statement}
 use Rattle.report.proofs.lines.put_fields.Tie as tie
 use Rattle.report.proofs.lines.put_fields.Reads as reads
@@ -14,7 +13,7 @@ use Rattle.report.proofs.decimal.put.Reads as put-reads
 use Rattle.report.proofs.lines.put_field.Reads as put-field-reads
 
 abbrev Inv-loop : tie.InvT-loop
-Inv-loop out₀ at numbers on₀ i₀ i-end out on i = (i ≤ length numbers) × (on ≤ at + i * 21) × (length out ≡ length out₀) × (upTo on out ++ fields (drop i numbers) ≡ upTo at out₀ ++ fields numbers)
+Inv-loop out₀ at numbers on₀ i₀ i-end out on i = (i ≤ length numbers) × (on ≤ at + i * 21) × (length out ≡ length out₀) × (buffer out on with fields (drop i numbers) ≡ buffer out₀ at with fields numbers)
 
 abbrev μ-loop : tie.MeasureT-loop
 μ-loop out₀ at numbers on₀ i₀ i-end out on i = length numbers - i

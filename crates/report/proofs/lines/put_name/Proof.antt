@@ -1,10 +1,9 @@
 use borrow.Author.Needs.{needs}
 use Rattle.report.proofs.Printing.{name-none, name-on, name-all}
 use mathlib.Core.Path.{_≡_, refl}
-use mathlib.Core.List.{_++_}
 use Prim.Native.Nat.{_≤_, _+_, _-_}
 use lib.ListN.{length, take}
-use Rattle.report.specs.Text.{upTo}
+use Rattle.report.specs.Text.{Puts}
 use Rattle.report.proofs.lines.put_name.Statement.{statement}
 use Rattle.report.proofs.lines.put_name.Tie as tie
 use Rattle.report.proofs.lines.put_name.Reads as reads
@@ -12,7 +11,7 @@ use Rattle.report.proofs.lines.put_name.Lts as lts
 use Rattle.report.proofs.decimal.put.Reads as put-reads
 
 abbrev Inv-loop : tie.InvT-loop
-Inv-loop out₀ at name on₀ i₀ i-end out on i = (i ≤ length name) × (on ≡ at + i) × (length out ≡ length out₀) × (upTo on out ≡ upTo at out₀ ++ take i name)
+Inv-loop out₀ at name on₀ i₀ i-end out on i = (i ≤ length name) × (on ≡ at + i) × (length out ≡ length out₀) × Puts (take i name) out₀ at out on
 
 abbrev μ-loop : tie.MeasureT-loop
 μ-loop out₀ at name on₀ i₀ i-end out on i = length name - i
