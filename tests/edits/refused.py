@@ -23,8 +23,18 @@ from pathlib import Path
 
 ROOT = Path(__file__).resolve().parents[2]
 
-# An error that shows nothing: what it needs was refused already, or a name of the edit or of the proof does not exist.
-EMPTY = ("was not admitted", "is not in scope", "not in scope", "can be named", "cannot be unfolded because", "is not a module")
+# An error that shows nothing: what it needs was refused already, a name of the edit or of the proof does not exist, or a step of the proof finds
+# nothing to rewrite, so that it no longer fits what it speaks of, be that true or false.
+EMPTY = (
+    "was not admitted",
+    "is not in scope",
+    "not in scope",
+    "can be named",
+    "cannot be unfolded because",
+    "is not a module",
+    "`rw`: no occurrence",
+    "`rw`: no part of the goal",
+)
 
 
 class Edit:

@@ -43,7 +43,12 @@ class Refused(unittest.TestCase):
         self.assertIn("first: returns-2", faults(TWO.replace("antt returns", "antt returns-2"))[0])
 
     def test_refused_for_no_fact(self):
-        for said in ("`p` was not admitted", "`true` is not in scope", "it has no `Need-returns` that can be named"):
+        for said in (
+            "`p` was not admitted",
+            "`true` is not in scope",
+            "it has no `Need-returns` that can be named",
+            "`rw`: no occurrence of the path's left endpoint in the goal",
+        ):
             log = LOG.replace("the two types differ", said)
             self.assertEqual(len(faults(TWO, log)), 1)
 
