@@ -47,6 +47,7 @@ pub record ReadingCases : Type 0 where
   pub level-too-many-spare : startOf (0xA1000000 ∷ (replicate 16 0x50000000 ++ (0x90000002 ∷ []))) ≡ refuse 2 (17 ∷ [])
   pub level-too-many : startOf (0xA1000000 ∷ (replicate 16 0x50000000 ++ (0x90000001 ∷ []))) ≡ refuse 4 (17 ∷ [])
   pub level-too-many-range : startOf (0xA1000000 ∷ (replicate 16 0x50000000 ++ (0x40000000 ∷ []))) ≡ refuse 4 (17 ∷ [])
+  pub event-level-too-many-spare : startOf (event ++ (replicate 16 0x70000000 ++ (0x90000002 ∷ []))) ≡ refuse 2 (20 ∷ [])
   -- a second table, of type 4; a table of an input that reads class 9
   pub table-no-type : startOf (term ++ (row ++ (0x2400FF00 ∷ []))) ≡ refuse 3 (4 ∷ [])
   pub table-no-class : startOf (input ++ (0x23000900 ∷ [])) ≡ refuse 3 (1 ∷ [])
@@ -62,6 +63,8 @@ pub record ReadingCases : Type 0 where
   -- a table without a row, at the end and before an assertion
   pub no-row : startOf term ≡ refuse 2 (2 ∷ [])
   pub no-row-before-assertion : startOf (term ++ assertion) ≡ refuse 2 (2 ∷ [])
+  -- a row of value 2 and an early end: the row comes first
+  pub row-before-formula : startOf (term ++ (0x3FF00002 ∷ [])) ≡ refuse 3 (2 ∷ [])
   -- ---- events
   -- true is no event; @T under 15 "or" is level 16, and what follows it level 17; under 14 "or" all is well
   pub true-as-event : startOf (event ++ (0x90000001 ∷ [])) ≡ refuse 3 (4 ∷ [])
@@ -79,7 +82,12 @@ pub record ReadingCases : Type 0 where
   pub rows-too-many : startOf (term ++ times 65 row) ≡ refuse 4 (130 ∷ [])
   pub assertions-most : startOf (times 32 assertion) ≡ ok 0
   pub assertions-too-many : startOf (times 33 assertion) ≡ refuse 4 (64 ∷ [])
+  -- levels, in an assertion, in a row of conditions, in a row of events
   pub levels-most : startOf (0xA1000000 ∷ (replicate 15 0x50000000 ++ (0x90000001 ∷ []))) ≡ ok 0
+  pub row-levels-most : startOf (term ++ (0x3FF00000 ∷ (replicate 15 0x50000000 ++ (0x90000001 ∷ [])))) ≡ ok 0
+  pub row-levels-too-many : startOf (term ++ (0x3FF00000 ∷ (replicate 16 0x50000000 ++ (0x90000001 ∷ [])))) ≡ refuse 4 (19 ∷ [])
+  pub event-levels-most : startOf (event ++ (replicate 15 0x70000000 ++ replicate 16 0x90000000)) ≡ ok 0
+  pub event-levels-too-many : startOf (event ++ (replicate 16 0x70000000 ++ (0x90000000 ∷ []))) ≡ refuse 4 (20 ∷ [])
   pub states-most : startOf (times 16 input) ≡ ok 0
   pub states-too-many : startOf (times 17 input) ≡ refuse 8 (16 ∷ [])
   pub size-least : startOf (0x11002001 ∷ []) ≡ ok 1
@@ -94,7 +102,7 @@ pub record ReadingCases : Type 0 where
   pub test-value-too-big : startOf (input ++ (0xA1000000 ∷ 0x40000002 ∷ [])) ≡ refuse 3 (2 ∷ [])
   pub test-value-most : startOf (input ++ (0xA1000000 ∷ 0x40000001 ∷ [])) ≡ ok 0
   pub row-value-too-big : startOf (term ++ (0x3FF00002 ∷ 0x90000001 ∷ [])) ≡ refuse 3 (2 ∷ [])
-  -- nor is it an event: of 4,096 the first is refused
+  -- word 0 is no event either: of 4,096 the first is refused
   pub events-most : runOf input 0 (replicate 4096 0) (replicate 4096 9) 0 .answer ≡ refuse 16 (0 ∷ [])
   pub events-too-many : runOf input 0 (replicate 4097 0) (replicate 4097 9) 0 .answer ≡ refuse 17 (4097 ∷ [])
   -- ---- the words of a table: before the end, before an assertion, before another table
@@ -112,6 +120,7 @@ reading-cases = record {
   level-too-many-spare = refl;
   level-too-many = refl;
   level-too-many-range = refl;
+  event-level-too-many-spare = refl;
   table-no-type = refl;
   table-no-class = refl;
   assertion-too-many = refl;
@@ -122,6 +131,7 @@ reading-cases = record {
   change-spare = refl;
   no-row = refl;
   no-row-before-assertion = refl;
+  row-before-formula = refl;
   true-as-event = refl;
   below-a-change = refl;
   change-deep-enough = refl;
@@ -134,6 +144,10 @@ reading-cases = record {
   assertions-most = refl;
   assertions-too-many = refl;
   levels-most = refl;
+  row-levels-most = refl;
+  row-levels-too-many = refl;
+  event-levels-most = refl;
+  event-levels-too-many = refl;
   states-most = refl;
   states-too-many = refl;
   size-least = refl;

@@ -88,6 +88,15 @@ pub record WordCases : Type 0 where
   pub class-2 : startOf (0x12002000 ∷ []) ≡ refuse 6 (0 ∷ [])
   pub class-4 : startOf (0x14002000 ∷ []) ≡ refuse 6 (0 ∷ [])
   pub class-5 : startOf (0x15002000 ∷ []) ≡ field 0
+  pub class-9 : startOf (0x19002000 ∷ []) ≡ field 0
+  -- all bits of a field count: the highest of a size, of an initial value, of the variable of a table and of a test, of a change
+  pub size-high : startOf (0x11802000 ∷ []) ≡ field 0
+  pub initial-high : startOf (0x11100800 ∷ []) ≡ field 0
+  pub defined-high : startOf (0x13002000 ∷ 0x2380FF00 ∷ []) ≡ field 1
+  pub test-high : startOf (0x11002000 ∷ 0xA1000000 ∷ 0x48000000 ∷ []) ≡ field 2
+  pub change-high : startOf (0x11002000 ∷ 0x14002000 ∷ 0x2201FF00 ∷ 0x3FF00000 ∷ 0x89000000 ∷ []) ≡ field 4
+  -- a term of 256 values, and a row that gives the last of them
+  pub term-256 : startOf (0x13100000 ∷ 0x2300FF00 ∷ 0x3FF000FF ∷ 0x90000001 ∷ []) ≡ ok 0
   -- a table's type, the variable defined, the class read
   pub type-0 : startOf (0x13002000 ∷ 0x2000FF00 ∷ []) ≡ field 1
   pub type-4 : startOf (0x13002000 ∷ 0x2400FF00 ∷ []) ≡ field 1
@@ -136,6 +145,13 @@ word-cases = record {
   class-2 = refl;
   class-4 = refl;
   class-5 = refl;
+  class-9 = refl;
+  size-high = refl;
+  initial-high = refl;
+  defined-high = refl;
+  test-high = refl;
+  change-high = refl;
+  term-256 = refl;
   type-0 = refl;
   type-4 = refl;
   no-such-variable = refl;

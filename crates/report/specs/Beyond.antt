@@ -11,6 +11,12 @@ use Rattle.word.specs.Limits as Max
 use Rattle.meaning.specs.Host.{wordOfBytes}
 use Rattle.meaning.specs.Program.{inputWord, inputWords, programOf}
 use Rattle.theory.specs.Loops.{list-same}
+use Rattle.theory.specs.Numbers.{length-listOf}
+
+-- "the first 8,192 only": so many words there are
+pub input-long : (bs : List ℕ) → length (inputWords bs) ≡ min 8192 ((length bs + 3) / 4)
+unfolding inputWords
+input-long bs = length-listOf (inputWord bs) (min 8192 ((length bs + 3) / 4))
 
 -- bytes of the words that are looked at
 abbrev pub max-input : ℕ

@@ -15,7 +15,7 @@ use Rattle.meaning.specs.Demand1.{StartRefused, StepRefused, ValuesRefused, Ans
 use Rattle.meaning.specs.Demand3.{Demand3}
 use Rattle.theory.specs.Found.{ok-not-refuse, ok-same, refuse-same}
 use Rattle.theory.specs.CheckExactly.{check-passes-exactly, check-refuses-exactly}
-use Rattle.theory.specs.CallsExactly.{values-exactly}
+use Rattle.theory.specs.CallsExactly.{start-answers, values-exactly}
 use Rattle.theory.specs.StepExactly.{step-exactly}
 use Rattle.theory.specs.RunExactly.{demand-3-holds}
 use Rattle.theory.specs.Demand1Holds.{demand-1}
@@ -23,7 +23,7 @@ use Rattle.scr.specs.declared.Answer.{Answer}
 use Rattle.scr.specs.declared.Verdict.{Verdict}
 use Rattle.scr.specs.declared.Count.{Count}
 use Rattle.scr.specs.Answers.{answerSays, verdictSays, countSays, countOf}
-use Rattle.scr.specs.Promises.{Demand2, StepsExactly, ValuesExactly}
+use Rattle.scr.specs.Promises.{Demand2, StepsExactly, StartsExactly, ValuesExactly}
 
 -- ---- demand 1
 pub start-demand : (ws : List ℕ) (r : Answer) → answerSays r ≡ startOf ws → AnswersOrRefuses (answerSays r) startNumbers (StartRefused ws)
@@ -84,11 +84,19 @@ demand-2 ws r e = record {
 pub steps-exactly : (ws : List ℕ) (s w : ℕ) (r : Answer) → answerSays r ≡ stepOf ws s w → StepsExactly ws s w r
 steps-exactly ws s w r e t = let q = step-exactly ws s w t in (λ x. q .0 (sym e ∙ x), λ x. e ∙ q .1 x)
 
+pub starts-exactly : (ws : List ℕ) (r : Answer) → answerSays r ≡ startOf ws → StartsExactly ws r
+starts-exactly ws r e t = let q = start-answers ws t in (λ x. q .0 (sym e ∙ x), λ x. e ∙ q .1 x)
+
 -- the number of values and the lent list, from the values
 counted-ok : (m : Outcome Values) (k : ℕ) → countOf m ≡ ok k → (a : Values) × (m ≡ ok a) × (k ≡ length a)
 unfolding countOf
 counted-ok (ok a) k e = (a, refl, sym (ok-same e))
 counted-ok (refuse n xs) k e = absurd (ok-not-refuse (sym e))
+
+counted-refused : (m : Outcome Values) (lent : List ℕ) (n : ℕ) (xs : List ℕ) → countOf m ≡ refuse n xs → lentValues m lent ≡ lent
+unfolding countOf lentValues
+counted-refused (ok a) lent n xs e = absurd (ok-not-refuse e)
+counted-refused (refuse m ys) lent n xs e = refl
 
 pub values-shown : (ws : List ℕ) (s : ℕ) (lent after : List ℕ) (r : Count) → countSays r ≡ countOf (valuesOf ws s (length lent))
     → after ≡ lentValues (valuesOf ws s (length lent)) lent → ValuesExactly ws s lent r after
@@ -102,6 +110,7 @@ values-shown ws s lent after r e el = record {
     λ p. e ∙ rw (values-exactly ws s (length lent) (p .1) .1 (p .0, p .2, p .3, p .4, p .5)) (rw (p .6, p .5 .here .long)),
   );
   written = λ z a h k l o. el ∙ rw (values-exactly ws s (length lent) a .1 (z, h, k, l, o));
+  kept = λ n xs q. el ∙ counted-refused (valuesOf ws s (length lent)) lent n xs (sym e ∙ q);
 }
 
 -- ---- demand 3

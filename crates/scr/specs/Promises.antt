@@ -12,7 +12,7 @@ use Rattle.meaning.specs.States.{Values, stateCount}
 use Rattle.meaning.specs.Steps.{inputOf, enabledWord}
 use Rattle.meaning.specs.Answers.{ok, refuse}
 use Rattle.meaning.specs.Check.{Counts, counts}
-use Rattle.meaning.specs.Valued.{OneValuation}
+use Rattle.meaning.specs.Valued.{IsInitial, OneValuation}
 use Rattle.meaning.specs.Moved.{Clean}
 use Rattle.meaning.specs.Passes.{Reads, Passes, Refused}
 use Rattle.scr.specs.declared.Answer.{Answer}
@@ -39,9 +39,15 @@ StepsExactly ws s w r =
     (s′ : ℕ) → (answerSays r ≡ ok s′)
     ↔ ((z : TableSet) × Reads ws z × (s < stateCount z) × (enabledWord z s w ≡ true) × Clean z s (inputOf w) s′)
 
--- The same of values: it answers that k values are written exactly if the set reads, s is one of its typed states, there is room for a value of each
+-- Start answers s exactly if the set reads and s is the state that holds its initial values.
+abbrev pub StartsExactly : List ℕ → Answer → Type 0
+StartsExactly ws r = (s : ℕ) → (answerSays r ≡ ok s) ↔ ((z : TableSet) × Reads ws z × IsInitial z s)
+
+-- Values answers that k values are written exactly if the set reads, s is one of its typed states, there is room for a value of each
 -- of its k variables, and the state has one valuation, met without a gap or an overlap. Then that valuation is what it has written.
 pub record ValuesExactly (ws : List ℕ) (s : ℕ) (lent : List ℕ) (r : Count) (after : List ℕ) : Type 0 where
   pub answers : (k : ℕ) → (countSays r ≡ ok k)
       ↔ ((z : TableSet) × (a : Values) × Reads ws z × (count z ≤ length lent) × (s < stateCount z) × OneValuation z s a × (k ≡ count z))
   pub written : (z : TableSet) (a : Values) → Reads ws z → count z ≤ length lent → s < stateCount z → OneValuation z s a → after ≡ sets lent 0 a
+  -- a refused call has written nothing
+  pub kept : (n : ℕ) (xs : List ℕ) → countSays r ≡ refuse n xs → after ≡ lent

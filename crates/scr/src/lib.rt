@@ -26,7 +26,7 @@ ghost use Rattle.meaning.specs.Demand1.{StartRefused, StepRefused, ValuesRefuse
 ghost use Rattle.meaning.specs.Demand3.{Demand3};
 ghost use Rattle.meaning.specs.Check.{checkOf};
 ghost use Rattle.scr.specs.Answers.{answerSays, verdictSays, countSays, countOf};
-ghost use Rattle.scr.specs.Promises.{Demand2, StepsExactly, ValuesExactly};
+ghost use Rattle.scr.specs.Promises.{Demand2, StartsExactly, StepsExactly, ValuesExactly};
 
 // ---- answers
 
@@ -122,10 +122,11 @@ pub enum Count {
 
 // ---- entries
 
-// The initial state, or the first of refusals 1 to 9.
+// The initial state, which holds the initial values, or the first of refusals 1 to 9.
 pub fn start(words: &[u32]) -> Answer
     ensures { λ r. ⌜ answerSays r ≡ startOf (now (words .entry)) ⌝ }
     ensures { λ r. ⌜ AnswersOrRefuses (answerSays r) startNumbers (StartRefused (now (words .entry))) ⌝ }
+    ensures { λ r. ⌜ StartsExactly (now (words .entry)) r ⌝ }
 {
     let index = open(words);
     let reading = index.reading;

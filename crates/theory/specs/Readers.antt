@@ -2,8 +2,8 @@
 use Prim.Native.Nat.{ℕ}
 use mathlib.Core.Path.{_≡_, refl, sym, subst}
 use mathlib.Core.Bool.{Bool, true, false}
-use Rattle.meaning.specs.Answers.{ok, Parse, fine, stop, _>>>_, expect, parsed, if_then_else_}
-use Rattle.theory.specs.Found.{ok-same, ok-not-refuse}
+use Rattle.meaning.specs.Answers.{Parse, fine, stop, _>>>_, expect, if_then_else_}
+use Rattle.theory.specs.Found.{fine-same, fine-not-stop}
 
 -- where m does not stop, P holds of what it gives
 pub data Gives {A : Type 0} (P : A → Type 0) : Parse A → Type 0 where
@@ -50,7 +50,6 @@ given-as (gives a p) = gives a (p, refl)
 given-as (stops n i) = stops n i
 
 -- what has been read has been given
-pub given : {A : Type 0} {P : A → Type 0} {m : Parse A} (a : A) → Gives P m → parsed m ≡ ok a → P a
-unfolding parsed
-given {P} a (gives b p) e = subst P (ok-same e) p
-given a (stops n i) e = absurd (ok-not-refuse (sym e))
+pub given : {A : Type 0} {P : A → Type 0} {m : Parse A} (a : A) → Gives P m → m ≡ fine a → P a
+given {P} a (gives b p) e = subst P (fine-same e) p
+given a (stops n i) e = absurd (fine-not-stop (sym e))

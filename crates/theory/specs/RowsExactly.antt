@@ -18,11 +18,12 @@ use Rattle.meaning.specs.Lookup.{definedBy, tableOf, isSome, hasTable, count}
 use Rattle.meaning.specs.Reading.{word, readTable, readWords}
 use Rattle.meaning.specs.States.{tabled, startsAtZero, fewStates, readTyped, readSet}
 use Rattle.meaning.specs.Calls.{isTableOf, endsTable, partLength, partFrom, rowsIf, rowsOf}
-use Rattle.meaning.specs.TableWords.{Follow, none, more, Took, Ends, next-table, first-assertion, no-more, TablePart}
+use Rattle.meaning.specs.TableWords.{Follow, nothing, more, Took, EndsAt, next-table, first-assertion, end-of-words, TablePart}
 use Rattle.meaning.specs.Passes.{Reads}
 use Rattle.meaning.specs.Demand1.{RowsAnswers}
 use Rattle.theory.specs.Tests.{true-not-false, otherwise, not-true, and-true, eqb-true, true-eqb, mem-here}
 use Rattle.theory.specs.Found.{bind-ok, ok-same, least-nothing, least-is}
+use Rattle.theory.specs.WellRead.{read-words}
 use Rattle.theory.specs.TablesRead.{bodyKinds, Kind, Spans, TableAt, read-at, Closing, Layout, layout}
 use Rattle.theory.specs.CheckExactly.{reads-exactly}
 use Rattle.theory.specs.ReadExactly.{read-refuses-exactly}
@@ -82,23 +83,23 @@ module _ (ws : List ℕ) where
   unfolding mem
   no-table-word k h = (λ e. true-not-false (rw e at h) refl, λ e. true-not-false (rw e at h) refl)
 
+  its-word : (v : ℕ) {i j : ℕ} {t : Table} → TableAt ws i t j → definedBy t ≡ v → isTableOf ws v i ≡ true
+  unfolding isTableOf
+  its-word v a e = rw (a .kind, a .defines) (true-eqb e)
+
+  other-word : (v : ℕ) {i j : ℕ} {t : Table} → TableAt ws i t j → eqb (definedBy t) v ≡ false → isTableOf ws v i ≡ false
+  unfolding isTableOf
+  other-word v a e = rw (a .kind, a .defines) e
+
   module _ (vs : List Variable) where
-    its-word : (v : ℕ) {i j : ℕ} {t : Table} → TableAt ws vs i t j → definedBy t ≡ v → isTableOf ws v i ≡ true
-    unfolding isTableOf
-    its-word v a e = rw (a .kind, a .defines) (true-eqb e)
-
-    other-word : (v : ℕ) {i j : ℕ} {t : Table} → TableAt ws vs i t j → eqb (definedBy t) v ≡ false → isTableOf ws v i ≡ false
-    unfolding isTableOf
-    other-word v a e = rw (a .kind, a .defines) e
-
     -- ---- tables read one after another
     follow-none : (v : ℕ) {i k : ℕ} {ts : List Table} → Follow ws vs i ts k → hasTable ts v ≡ false
         → (n : ℕ) → i ≤ n → n < k → isTableOf ws v n ≡ false
-    follow-none v none h n l m = let x : ⊥ = omega arith in absurd x
+    follow-none v nothing h n l m = let x : ⊥ = omega arith in absurd x
     follow-none v (more {i} {j} {k} {t} {ts} e f) h n l m =
         go (λ p. follow-none v f (none-of t ts v h .1) n p m) (decLe j n) (decLe (suc i) n)
       where
-        a : TableAt ws vs i t j
+        a : TableAt ws i t j
         a = read-at ws vs i t j e
 
         go : (j ≤ n → isTableOf ws v n ≡ false) → Dec (j ≤ n) → Dec (i < n) → isTableOf ws v n ≡ false
@@ -116,7 +117,7 @@ module _ (ws : List ℕ) where
       later : Follow ws vs to after last
 
     parted : {i k : ℕ} (before : List Table) (t : Table) (after : List Table) → Follow ws vs i (before ++ (t ∷ after)) k → Parted i before t after k
-    parted [] t after (more e f) = record { from = _; to = _; sooner = none; here = e; later = f }
+    parted [] t after (more e f) = record { from = _; to = _; sooner = nothing; here = e; later = f }
     parted (b ∷ before) t after (more e f) =
         let p = parted before t after f in
         record { from = p .from; to = p .to; sooner = more e (p .sooner); here = p .here; later = p .later }
@@ -151,7 +152,7 @@ module _ (ws : List ℕ) where
       abbrev To : ℕ
       To = place .to
 
-      at-place : TableAt ws (z .variables) From (cut .table) To
+      at-place : TableAt ws From (cut .table) To
       at-place = read-at ws (z .variables) From (cut .table) To (place .here)
 
       sooner-none : (n : ℕ) → n < From → isTableOf ws v n ≡ false
@@ -173,12 +174,12 @@ module _ (ws : List ℕ) where
           let k = word-inside bodyKinds (To - 1) refl (at-place .body .kinds (To - 1) (omega arith) (omega arith)) in
           omega arith
 
-      ends : Ends ws To
+      ends : EndsAt ws To
       ends = go (place .later) (lay .closing)
         where
-          go : {ts : List Table} {k : ℕ} → Follow ws (z .variables) To ts k → Closing ws (z .variables) k → Ends ws To
-          go none c = elim (c .starts) [
-            | inl l ↦ let e : length ws ≡ To = omega (arith, inside) in subst (Ends ws) e no-more
+          go : {ts : List Table} {k : ℕ} → Follow ws (z .variables) To ts k → Closing ws k → EndsAt ws To
+          go nothing c = elim (c .starts) [
+            | inl l ↦ let e : length ws ≡ To = omega (arith, inside) in subst (EndsAt ws) e end-of-words
             | inr e ↦ first-assertion e
           ]
           go (more {t} e f) c = next-table (read-at ws (z .variables) To t _ e .kind)
@@ -195,11 +196,11 @@ module _ (ws : List ℕ) where
           let q = otherwise (eqb (Kind ws (suc From + k)) 10) (λ e. b .1 (eqb-true e)) in
           rw (p, q)
 
-      ended : {k : ℕ} → Ends ws k → k < length ws → endsTable ws k ≡ true
+      ended : {k : ℕ} → EndsAt ws k → k < length ws → endsTable ws k ≡ true
       unfolding endsTable
       ended (next-table e) l = rw e
       ended (first-assertion e) l = rw e
-      ended no-more l = let x : ⊥ = omega arith in absurd x
+      ended end-of-words l = let x : ⊥ = omega arith in absurd x
 
       part-length : partLength ws From ≡ To - suc From
       unfolding partLength orElse
@@ -217,7 +218,7 @@ module _ (ws : List ℕ) where
       part-is =
           let l : From < length ws = omega (arith, rising, inside) in
           let q : suc (To - suc From) ≡ To - From = omega (arith, rising) in
-          rw (least-is (isTableOf ws v) (length ws) From l (its-word (z .variables) v at-place (cut .its)) sooner-none, part-length, q)
+          rw (least-is (isTableOf ws v) (length ws) From l (its-word v at-place (cut .its)) sooner-none, part-length, q)
 
       table-part : TablePart ws z v (partFrom ws (least (isTableOf ws v) (length ws)))
       table-part = record {
@@ -251,15 +252,6 @@ module _ (ws : List ℕ) where
           omega (arith, rising)
 
 -- ---- rows
-read-words : (ws : List ℕ) (z : TableSet) → readTyped ws ≡ ok z → readWords ws ≡ ok z
-unfolding readTyped
-read-words ws z e =
-    let p = bind-ok (readWords ws) _ z e in
-    let a = bind-ok (every (tabled (p .0)) (count (p .0))) _ z (p .2) in
-    let b = bind-ok (every (startsAtZero (p .0)) (count (p .0))) _ z (a .2) in
-    let c = bind-ok (every (fewStates (p .0)) (count (p .0))) _ z (b .2) in
-    subst (λ (y : TableSet). readWords ws ≡ ok y) (ok-same (c .2)) (p .1)
-
 pub rows-answers : (ws : List ℕ) (v : ℕ) → RowsAnswers ws v (rowsOf ws v)
 unfolding rowsOf rowsIf partFrom
 rows-answers ws v = record {

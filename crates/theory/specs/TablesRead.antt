@@ -15,16 +15,22 @@ use Rattle.word.specs.Limits as Max
 use Rattle.meaning.specs.Answers.{ok, demand, Parse, fine, stop, _>>>_, expect, parsed}
 use Rattle.meaning.specs.Searches.{mem, within}
 use Rattle.meaning.specs.Syntax.{Condition, Event, Variable, Row, Body, Table, condition-table, TableSet}
-use Rattle.meaning.specs.Lookup.{definedBy, hasTable}
+use Rattle.meaning.specs.Lookup.{definedBy, hasTable, count}
 use Rattle.meaning.specs.Reading.{Read, word, fits, conditionKinds, eventKinds, conditionBy, eventBy, testOk, testOf, variableOk, rowOk, rowsBy, rowOf, bodyOf, eventTableBy, tableOk, tableFits, wordAt, readVariables, readCondition, readEvent, readRow, readRows, readBody, readTable, readTables, readAssertion, readAssertions, readWords}
-use Rattle.meaning.specs.TableWords.{Follow, none, more}
+use Rattle.meaning.specs.TableWords.{Follow, nothing, more}
 use Rattle.theory.specs.Tests.{true-not-false, not-true, and-true, eqb-true, true-eqb, leb-true, below-suc, all-of, mem-passes, mem-among, mem-cons, mem-none}
 use Rattle.theory.specs.Found.{ok-same, bind-ok, demand-ok}
+use Rattle.theory.specs.Sections.{sections}
 use Rattle.theory.specs.Readers.{Gives, gives, stops, expected, after, past, so, branches, decides, given-as, given}
 
 -- the kinds of the words that follow a table word in its table: rows and formulas
 abbrev pub bodyKinds : List ℕ
 bodyKinds = 3 ∷ 4 ∷ 5 ∷ 6 ∷ 7 ∷ 8 ∷ 9 ∷ []
+
+event-defined : (b : Bool) (t : Body Event) → definedBy (eventTableBy b t) ≡ t .variable
+unfolding eventTableBy definedBy
+event-defined true t = refl
+event-defined false t = refl
 
 module _ (ws : List ℕ) where
   abbrev pub Kind : ℕ → ℕ
@@ -50,9 +56,9 @@ module _ (ws : List ℕ) where
   }
 
   -- no table word stands among them
-  no-table-word : (k : ℕ) → mem (Kind k) bodyKinds ≡ true → eqb (Kind k) 2 ≡ false
+  no-table-kind : (k : ℕ) → mem (Kind k) bodyKinds ≡ true → eqb (Kind k) 2 ≡ false
   unfolding all-of
-  no-table-word k h = not-true (eqb (Kind k) 2) (mem-passes (λ n. not (eqb n 2)) bodyKinds (Kind k) refl h)
+  no-table-kind k h = not-true (eqb (Kind k) 2) (mem-passes (λ n. not (eqb n 2)) bodyKinds (Kind k) refl h)
 
   -- ---- the readers
   only-kind : (n i : ℕ) → mem (Kind i) (n ∷ []) ≡ true → Kind i ≡ n
@@ -64,17 +70,39 @@ module _ (ws : List ℕ) where
       after (expected (mem (Kind i) kinds && W.spare-clear (word ws i)) 2 i) λ _ e.
       gives (word ws i) (refl, and-true (mem (Kind i) kinds) (W.spare-clear (word ws i)) e .0)
 
+  -- one operand or two after the word at i
+  one-more : {A B : Type 0} {i : ℕ} (m : Read A) (f : A × ℕ → B) → Spans i (suc i) → Gives (λ r. Spans (suc i) (r .1)) m
+      → Gives {A = B × ℕ} (λ r. Spans i (r .1)) (m >>> λ r. fine (f r, r .1))
+  one-more m f s g = after g (λ r p. gives (f r, r .1) (joined s p))
+
+  two-more : {A B C : Type 0} {i : ℕ} (m : Read A) (k : ℕ → Read B) (f : A × ℕ → B × ℕ → C) → Spans i (suc i)
+      → Gives (λ r. Spans (suc i) (r .1)) m → ((j : ℕ) → Gives (λ r. Spans j (r .1)) (k j))
+      → Gives {A = C × ℕ} (λ r. Spans i (r .1)) (m >>> λ r. k (r .1) >>> λ q. fine (f r q, q .1))
+  two-more m k f s g h = after g (λ r p. after (h (r .1)) (λ q n. gives (f r q, q .1) (joined (joined s p) n)))
+
+  -- a table that was read at i, up to j
+  pub record TableAt (i : ℕ) (t : Table) (j : ℕ) : Type 0 where
+    pub kind : Kind i ≡ 2
+    pub defines : W.defined (word ws i) ≡ definedBy t
+    pub body : Spans (suc i) j
+
+  -- from i on no table word stands, and an assertion at i if anything
+  pub record Closing (i : ℕ) : Type 0 where
+    pub starts : (length ws ≤ i) ⊎ (Kind i ≡ 10)
+    pub no-table : (k : ℕ) → i ≤ k → k < length ws → eqb (Kind k) 2 ≡ false
+
+  at-end : {i : ℕ} → length ws ≤ i → Closing i
+  at-end l = record { starts = inl l; no-table = λ k h m. let x : ⊥ = omega arith in absurd x }
+
+  before-more : {i j : ℕ} → Kind i ≡ 10 → Spans (suc i) j → Closing j → Closing i
+  before-more {i} {j} e s h = record { starts = inr e; no-table = λ k l m. go k l m (decLe j k) (decLe (suc i) k) }
+    where
+      go : (k : ℕ) → i ≤ k → k < length ws → Dec (j ≤ k) → Dec (i < k) → eqb (Kind k) 2 ≡ false
+      go k l m (yes n) o = h .no-table k n m
+      go k l m (no n) (yes o) = no-table-kind k (s .kinds k o (omega arith))
+      go k l m (no n) (no o) = let q : i ≡ k = omega arith in subst (λ (x : ℕ). eqb (Kind x) 2 ≡ false) q (rw e)
+
   module _ (vs : List Variable) where
-    -- one operand or two after the word at i
-    one-more : {A B : Type 0} {i : ℕ} (m : Read A) (f : A × ℕ → B) → Spans i (suc i) → Gives (λ r. Spans (suc i) (r .1)) m
-        → Gives {A = B × ℕ} (λ r. Spans i (r .1)) (m >>> λ r. fine (f r, r .1))
-    one-more m f s g = after g (λ r p. gives (f r, r .1) (joined s p))
-
-    two-more : {A B C : Type 0} {i : ℕ} (m : Read A) (k : ℕ → Read B) (f : A × ℕ → B × ℕ → C) → Spans i (suc i)
-        → Gives (λ r. Spans (suc i) (r .1)) m → ((j : ℕ) → Gives (λ r. Spans j (r .1)) (k j))
-        → Gives {A = C × ℕ} (λ r. Spans i (r .1)) (m >>> λ r. k (r .1) >>> λ q. fine (f r q, q .1))
-    two-more m k f s g h = after g (λ r p. after (h (r .1)) (λ q n. gives (f r q, q .1) (joined (joined s p) n)))
-
     condition-spans : (left i : ℕ) → Gives (λ r. Spans i (r .1)) (readCondition ws vs left i)
     unfolding readCondition conditionBy all-of mem
     condition-spans zero i = past (wordAt ws conditionKinds i) (λ w. stops 4 i)
@@ -115,11 +143,6 @@ module _ (ws : List ℕ) where
           after (row-spans (suc left) i) λ r h.
           branches (eqb (Kind (r .1)) 3) (λ _. after (rows-span left (r .1)) (λ q k. gives _ (joined (h .0) k))) (λ _. gives _ (h .0))
 
-    event-defined : (b : Bool) (t : Body Event) → definedBy (eventTableBy b t) ≡ t .variable
-    unfolding eventTableBy definedBy
-    event-defined true t = refl
-    event-defined false t = refl
-
     body-spans : (w i : ℕ) → Gives (λ r. (definedBy (r .0) ≡ W.defined w) × Spans i (r .1)) (readBody ws vs w i)
     unfolding readBody bodyOf definedBy
     body-spans w i =
@@ -128,12 +151,6 @@ module _ (ws : List ℕ) where
         gives (condition-table (bodyOf w (r .0)), r .1) (refl, h))
         (λ _. after (rows-span (readEvent ws vs Max.max-depth) (event-spans Max.max-depth) (W.defined w) (W.class-read w) Max.max-rows i) λ r h.
         gives _ (event-defined (eqb (W.sort w) 1) (bodyOf w (r .0)), h))
-
-    -- a table that was read at i, up to j
-    pub record TableAt (i : ℕ) (t : Table) (j : ℕ) : Type 0 where
-      pub kind : Kind i ≡ 2
-      pub defines : W.defined (word ws i) ≡ definedBy t
-      pub body : Spans (suc i) j
 
     table-spans : (i : ℕ) (taken : Bool) → Gives (λ r. (taken ≡ false) × TableAt i (r .0) (r .1)) (readTable ws vs i taken)
     unfolding readTable
@@ -148,8 +165,7 @@ module _ (ws : List ℕ) where
 
     -- ---- tables one after another
     pub read-at : (i : ℕ) (t : Table) (j : ℕ) → readTable ws vs i false ≡ fine (t, j) → TableAt i t j
-    unfolding parsed
-    read-at i t j e = given (t, j) (table-spans i false) (rw e) .1
+    read-at i t j e = given _ (table-spans i false) e .1
 
     -- the tables us are ts and those read from i on
     record Added (i : ℕ) (ts us : List Table) (k : ℕ) : Type 0 where
@@ -160,15 +176,15 @@ module _ (ws : List ℕ) where
     untaken : (i : ℕ) (taken : Bool) (r : Table × ℕ) → taken ≡ false → readTable ws vs i taken ≡ fine r → readTable ws vs i false ≡ fine r
     untaken i taken r t e = rw t at e
 
-    no-more : (i : ℕ) (ts : List Table) → Added i ts ts i
-    no-more i ts = record { new = []; all = sym (append-nil ts); follow = none }
+    none-added : (i : ℕ) (ts : List Table) → Added i ts ts i
+    none-added i ts = record { new = []; all = sym (append-nil ts); follow = nothing }
 
     tables-follow : (left i : ℕ) (ts : List Table) → Gives (λ r. Added i ts (r .0) (r .1)) (readTables ws vs left i ts)
     unfolding readTables
     tables-follow zero i ts =
         branches (eqb (Kind i) 2)
         (λ _. past (readTable ws vs i (hasTable ts (W.defined (word ws i)))) (λ _. stops 5 i))
-        (λ _. gives (ts, i) (no-more i ts))
+        (λ _. gives (ts, i) (none-added i ts))
     tables-follow (suc left) i ts =
         branches (eqb (Kind i) 2)
         (λ _. after (given-as (table-spans i (hasTable ts (W.defined (word ws i))))) λ r h.
@@ -177,14 +193,9 @@ module _ (ws : List ℕ) where
           all = a .all ∙ append-assoc ts (r .0 ∷ []) (a .new);
           follow = more (untaken i _ r (h .0 .0) (h .1)) (a .follow);
         })
-        (λ _. gives (ts, i) (no-more i ts))
+        (λ _. gives (ts, i) (none-added i ts))
 
     -- ---- assertions
-    -- from i on no table word stands, and an assertion at i if anything
-    pub record Closing (i : ℕ) : Type 0 where
-      pub starts : (length ws ≤ i) ⊎ (Kind i ≡ 10)
-      pub no-table : (k : ℕ) → i ≤ k → k < length ws → eqb (Kind k) 2 ≡ false
-
     assertion-closes : (left i : ℕ) → Gives (λ r. (ltb 0 left ≡ true) × (Kind i ≡ 10) × Spans (suc i) (r .1)) (readAssertion ws vs left i)
     unfolding readAssertion
     assertion-closes left i =
@@ -192,17 +203,6 @@ module _ (ws : List ℕ) where
         after (expected (ltb 0 left) 4 i) λ _ l.
         past (expect (eqb (W.sort w) 1) 3 i) λ _.
         so (condition-spans Max.max-depth (suc i)) (λ r s. (l, only-kind 10 i (h .1), s))
-
-    at-end : {i : ℕ} → length ws ≤ i → Closing i
-    at-end l = record { starts = inl l; no-table = λ k h m. let x : ⊥ = omega arith in absurd x }
-
-    before-more : {i j : ℕ} → Kind i ≡ 10 → Spans (suc i) j → Closing j → Closing i
-    before-more {i} {j} e s h = record { starts = inr e; no-table = λ k l m. go k l m (decLe j k) (decLe (suc i) k) }
-      where
-        go : (k : ℕ) → i ≤ k → k < length ws → Dec (j ≤ k) → Dec (i < k) → eqb (Kind k) 2 ≡ false
-        go k l m (yes n) o = h .no-table k n m
-        go k l m (no n) (yes o) = no-table-word k (s .kinds k o (omega arith))
-        go k l m (no n) (no o) = let q : i ≡ k = omega arith in subst (λ (x : ℕ). eqb (Kind x) 2 ≡ false) q (rw e)
 
     assertions-close : (left i : ℕ) → Gives (λ r. Closing i) (readAssertions ws vs left i)
     unfolding readAssertions
@@ -235,23 +235,17 @@ module _ (ws : List ℕ) where
     pub variables : readVariables ws Max.max-variables 0 [] ≡ fine (z .variables, first)
     pub low : (k : ℕ) → k < first → Kind k ≡ 1
     pub tables : Follow ws (z .variables) first (z .tables) last
-    pub closing : Closing (z .variables) last
+    pub closing : Closing last
 
   pub layout : (z : TableSet) → readWords ws ≡ ok z → Layout z
-  unfolding readWords
   layout z e =
-      let a = bind-ok (demand (within 1 Max.max-words (length ws)) 1 (length ws ∷ [])) _ z e in
-      let b = bind-ok (parsed (readVariables ws Max.max-variables 0 [])) _ z (a .2) in
-      let vs = b .0 .0 in
-      let c = bind-ok (parsed (readTables ws vs (length vs) (b .0 .1) [])) _ z (b .2) in
-      let d = bind-ok (parsed (readAssertions ws vs Max.max-assertions (c .0 .1))) _ z (c .2) in
-      let v = given (b .0) (given-as (variables-below Max.max-variables 0 [] (λ k h. absurd (not-suc-le-zero h)))) (b .1) in
-      let t = given (c .0) (tables-follow vs (length vs) (b .0 .1) []) (c .1) in
-      subst Layout (ok-same (d .2)) (record {
-        first = b .0 .1;
-        last = c .0 .1;
-        variables = v .1;
-        low = v .0;
-        tables = subst (λ (ts : List Table). Follow ws vs (b .0 .1) ts (c .0 .1)) (sym (t .all)) (t .follow);
-        closing = given (d .0) (assertions-close vs Max.max-assertions (c .0 .1)) (d .1);
-      })
+      let s = sections ws z e in
+      let t = given _ (tables-follow (z .variables) (count z) (s .first) []) (s .tables) in
+      record {
+        first = s .first;
+        last = s .last;
+        variables = s .variables;
+        low = given _ (variables-below Max.max-variables 0 [] (λ k h. absurd (not-suc-le-zero h))) (s .variables);
+        tables = subst (λ (ts : List Table). Follow ws (z .variables) (s .first) ts (s .last)) (sym (t .all)) (t .follow);
+        closing = given _ (assertions-close (z .variables) Max.max-assertions (s .last)) (s .assertions);
+      }

@@ -1,4 +1,4 @@
-use Rattle.scr.proofs.Demanded.{start-demand}
+use Rattle.scr.proofs.Demanded.{start-demand, starts-exactly}
 use Rattle.scr.proofs.Entering.{index-of, start-refused}
 use borrow.Author.Needs.{needs}
 use Rattle.scr.proofs.start.Statement.{statement}
@@ -21,10 +21,10 @@ start-requires : tie.Need-start-requires
 start-requires c κs = search index-of
 
 returns : tie.Need-returns
-returns c = (search start-refused, start-demand _ _ (search start-refused))
+returns c = (search start-refused, (start-demand _ _ (search start-refused), starts-exactly _ _ (search start-refused)))
 
 returns-2 : tie.Need-returns-2
-returns-2 c = (search needs, start-demand _ _ (search needs))
+returns-2 c = (search needs, (start-demand _ _ (search needs), starts-exactly _ _ (search needs)))
 
 pub start-spec : {M : Type 1} → statement M
 start-spec =
