@@ -1,9 +1,9 @@
 -- Formulas, rows, what is read, the order, states and counts, by computation. The relations of the demands judge formulas and find what is
 -- read by the same definitions as the calls do, so these cases are what tells them from likely wrong ones.
 use mathlib.Core.Path.{_≡_, refl}
-use mathlib.Core.List.{List, [], _∷_, _++_}
+use mathlib.Core.List.{List, [], _∷_}
 use Prim.Native.Nat.{ℕ}
-use Rattle.meaning.specs.Answers.{Outcome, ok, refuse}
+use Rattle.meaning.specs.Answers.{ok, refuse}
 use Rattle.meaning.specs.Check.{checkOf}
 use Rattle.meaning.specs.Steps.{stepOf}
 use Rattle.meaning.specs.Calls.{startOf}

@@ -5,7 +5,7 @@ use Prim.Native.Nat.{ℕ, zero, suc}
 use mathlib.Core.Path.{_≡_, refl}
 use mathlib.Core.List.{List, [], _∷_, _++_}
 use lib.ListN.{replicate}
-use Rattle.meaning.specs.Answers.{Outcome, ok, refuse}
+use Rattle.meaning.specs.Answers.{ok, refuse}
 use Rattle.meaning.specs.Run.{runOf}
 use Rattle.meaning.specs.Calls.{startOf, rowsOf}
 use Rattle.meaning.specs.Opened.{meaning}

@@ -1,8 +1,8 @@
 -- The demands of each entry, from its equations: demand 1 of all, 2 of check and step, 3 of run.
-use mathlib.Core.Path.{_≡_, refl, sym, ap, _∙_, subst}
-use mathlib.Core.Logic.{_↔_, _⊎_, inl, inr}
-use mathlib.Core.List.{List, [], _∷_}
-use Prim.Native.Nat.{ℕ, _≤_}
+use mathlib.Core.Path.{_≡_, refl, sym, _∙_}
+use mathlib.Core.Logic.{inl, inr}
+use mathlib.Core.List.{List}
+use Prim.Native.Nat.{ℕ}
 use lib.ListN.{length}
 use Rattle.meaning.specs.Answers.{Outcome, ok, refuse, startNumbers, checkNumbers, stepNumbers, valuesNumbers}
 use Rattle.meaning.specs.States.{Values}

@@ -1,8 +1,8 @@
 -- Rows hands back the table that reading found: the words that reading it took, or none where the set has no such table.
 use Prim.Native.Nat.{ℕ, suc, _+_, _-_, _≤_, _<_}
 use mathlib.Core.Path.{_≡_, refl, sym, ap, subst, _∙_}
-use mathlib.Core.Logic.{_↔_, _⊎_, inl, inr}
-use mathlib.Core.Bool.{Bool, true, false, not, _&&_, _||_}
+use mathlib.Core.Logic.{inl, inr}
+use mathlib.Core.Bool.{Bool, true, false}
 use mathlib.Core.Option.{Option, none, some}
 use mathlib.Core.List.{List, [], _∷_, _++_}
 use native.Mathlib.Omega.{arith}
@@ -12,19 +12,19 @@ use lib.ListN.{length, take, drop, length-drop, List·getD-eq-default}
 use lib.Seq.{length-take-le}
 use Rattle.word.specs.Fields as W
 use Rattle.meaning.specs.Answers.{Outcome, ok, refuse, fine, if_then_else_}
-use Rattle.meaning.specs.Searches.{every, least, orElse, mem}
+use Rattle.meaning.specs.Searches.{least, orElse, mem}
 use Rattle.meaning.specs.Syntax.{Variable, Table, TableSet}
-use Rattle.meaning.specs.Lookup.{definedBy, tableOf, isSome, hasTable, count}
-use Rattle.meaning.specs.Reading.{word, readTable, readWords}
-use Rattle.meaning.specs.States.{tabled, startsAtZero, fewStates, readTyped, readSet}
+use Rattle.meaning.specs.Lookup.{definedBy, tableOf, isSome, hasTable}
+use Rattle.meaning.specs.Reading.{word, readTable}
+use Rattle.meaning.specs.States.{readSet}
 use Rattle.meaning.specs.Calls.{isTableOf, endsTable, partLength, partFrom, rowsIf, rowsOf}
-use Rattle.meaning.specs.TableWords.{Follow, nothing, more, Took, EndsAt, next-table, first-assertion, end-of-words, TablePart}
+use Rattle.meaning.specs.TableWords.{Follow, nothing, more, EndsAt, next-table, first-assertion, end-of-words, TablePart}
 use Rattle.meaning.specs.Passes.{Reads}
 use Rattle.meaning.specs.Demand1.{RowsAnswers}
-use Rattle.theory.specs.Tests.{true-not-false, otherwise, not-true, and-true, eqb-true, true-eqb, mem-here}
-use Rattle.theory.specs.Found.{bind-ok, ok-same, least-nothing, least-is}
+use Rattle.theory.specs.Tests.{true-not-false, otherwise, eqb-true, true-eqb}
+use Rattle.theory.specs.Found.{least-nothing, least-is}
 use Rattle.theory.specs.WellRead.{read-words}
-use Rattle.theory.specs.TablesRead.{bodyKinds, Kind, Spans, TableAt, read-at, Closing, Layout, layout}
+use Rattle.theory.specs.TablesRead.{bodyKinds, Kind, other-than, TableAt, read-at, Closing, Layout, layout}
 use Rattle.theory.specs.CheckExactly.{reads-exactly}
 use Rattle.theory.specs.ReadExactly.{read-refuses-exactly}
 
@@ -79,10 +79,6 @@ module _ (ws : List ℕ) where
   unfolding isTableOf
   other-kind v k e = rw e
 
-  no-table-word : (k : ℕ) → mem (Kind ws k) bodyKinds ≡ true → (Kind ws k ≡ 2 → ⊥) × (Kind ws k ≡ 10 → ⊥)
-  unfolding mem
-  no-table-word k h = (λ e. true-not-false (rw e at h) refl, λ e. true-not-false (rw e at h) refl)
-
   its-word : (v : ℕ) {i j : ℕ} {t : Table} → TableAt ws i t j → definedBy t ≡ v → isTableOf ws v i ≡ true
   unfolding isTableOf
   its-word v a e = rw (a .kind, a .defines) (true-eqb e)
@@ -95,6 +91,7 @@ module _ (ws : List ℕ) where
     -- ---- tables read one after another
     follow-none : (v : ℕ) {i k : ℕ} {ts : List Table} → Follow ws vs i ts k → hasTable ts v ≡ false
         → (n : ℕ) → i ≤ n → n < k → isTableOf ws v n ≡ false
+    unfolding mem
     follow-none v nothing h n l m = let x : ⊥ = omega arith in absurd x
     follow-none v (more {i} {j} {k} {t} {ts} e f) h n l m =
         go (λ p. follow-none v f (none-of t ts v h .1) n p m) (decLe j n) (decLe (suc i) n)
@@ -104,7 +101,7 @@ module _ (ws : List ℕ) where
 
         go : (j ≤ n → isTableOf ws v n ≡ false) → Dec (j ≤ n) → Dec (i < n) → isTableOf ws v n ≡ false
         go ih (yes p) q = ih p
-        go ih (no p) (yes q) = other-kind v n (otherwise (eqb (Kind ws n) 2) (λ b. no-table-word n (a .body .kinds n q (omega arith)) .0 (eqb-true b)))
+        go ih (no p) (yes q) = other-kind v n (other-than ws 2 n refl (a .body .kinds n q (omega arith)))
         go ih (no p) (no q) =
             let x : i ≡ n = omega arith in
             subst (λ (y : ℕ). isTableOf ws v y ≡ false) x (other-word v a (none-of t ts v h .0))
@@ -161,8 +158,12 @@ module _ (ws : List ℕ) where
         | no p ↦ follow-none (z .variables) v (place .sooner) (cut .none-before) n (omega arith) l
       ]
 
+      other : (n : ℕ) → mem n bodyKinds ≡ false → (k : ℕ) → From < k → k < To → eqb (Kind ws k) n ≡ false
+      other n f k l m = other-than ws n k f (at-place .body .kinds k l m)
+
       between : (k : ℕ) → From < k → k < To → (Kind ws k ≡ 2 → ⊥) × (Kind ws k ≡ 10 → ⊥)
-      between k l m = no-table-word k (at-place .body .kinds k l m)
+      unfolding mem
+      between k l m = (λ e. true-not-false (true-eqb e) (other 2 refl k l m), λ e. true-not-false (true-eqb e) (other 10 refl k l m))
 
       rising : From < To
       rising = omega (arith, at-place .body .some)
@@ -189,12 +190,9 @@ module _ (ws : List ℕ) where
       EndsAfter k = endsTable ws (suc From + k)
 
       not-yet : (k : ℕ) → k < To - suc From → EndsAfter k ≡ false
-      unfolding endsTable
+      unfolding endsTable mem
       not-yet k l =
-          let b = between (suc From + k) (omega arith) (omega arith) in
-          let p = otherwise (eqb (Kind ws (suc From + k)) 2) (λ e. b .0 (eqb-true e)) in
-          let q = otherwise (eqb (Kind ws (suc From + k)) 10) (λ e. b .1 (eqb-true e)) in
-          rw (p, q)
+          rw (other 2 refl (suc From + k) (omega arith) (omega arith), other 10 refl (suc From + k) (omega arith) (omega arith))
 
       ended : {k : ℕ} → EndsAt ws k → k < length ws → endsTable ws k ≡ true
       unfolding endsTable

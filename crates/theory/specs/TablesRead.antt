@@ -12,14 +12,13 @@ use lib.Dec.{leb, ltb, eqb}
 use lib.ListN.{length}
 use Rattle.word.specs.Fields as W
 use Rattle.word.specs.Limits as Max
-use Rattle.meaning.specs.Answers.{ok, demand, Parse, fine, stop, _>>>_, expect, parsed}
+use Rattle.meaning.specs.Answers.{ok, fine, _>>>_, expect}
 use Rattle.meaning.specs.Searches.{mem, within}
-use Rattle.meaning.specs.Syntax.{Condition, Event, Variable, Row, Body, Table, condition-table, TableSet}
+use Rattle.meaning.specs.Syntax.{Event, Variable, Body, Table, condition-table, TableSet}
 use Rattle.meaning.specs.Lookup.{definedBy, hasTable, count}
-use Rattle.meaning.specs.Reading.{Read, word, fits, conditionKinds, eventKinds, conditionBy, eventBy, testOk, testOf, variableOk, rowOk, rowsBy, rowOf, bodyOf, eventTableBy, tableOk, tableFits, wordAt, readVariables, readCondition, readEvent, readRow, readRows, readBody, readTable, readTables, readAssertion, readAssertions, readWords}
+use Rattle.meaning.specs.Reading.{Read, word, fits, conditionKinds, eventKinds, conditionBy, eventBy, testOk, variableOk, rowOk, rowsBy, bodyOf, eventTableBy, tableOk, tableFits, wordAt, readVariables, readCondition, readEvent, readRow, readRows, readBody, readTable, readTables, readAssertion, readAssertions, readWords}
 use Rattle.meaning.specs.TableWords.{Follow, nothing, more}
-use Rattle.theory.specs.Tests.{true-not-false, not-true, and-true, eqb-true, true-eqb, leb-true, below-suc, all-of, mem-passes, mem-among, mem-cons, mem-none}
-use Rattle.theory.specs.Found.{ok-same, bind-ok, demand-ok}
+use Rattle.theory.specs.Tests.{otherwise, true-not-false, not-true, and-true, eqb-true, leb-true, below-suc, all-of, mem-among, mem-cons, mem-none}
 use Rattle.theory.specs.Sections.{sections}
 use Rattle.theory.specs.Readers.{Gives, gives, stops, expected, after, past, so, branches, decides, given-as, given}
 
@@ -55,10 +54,10 @@ module _ (ws : List ℕ) where
     kinds = λ n l m. elim (decLe (suc n) j) [ yes h ↦ p .kinds n l h | no h ↦ q .kinds n (omega arith) m ];
   }
 
-  -- no table word stands among them
-  no-table-kind : (k : ℕ) → mem (Kind k) bodyKinds ≡ true → eqb (Kind k) 2 ≡ false
-  unfolding all-of
-  no-table-kind k h = not-true (eqb (Kind k) 2) (mem-passes (λ n. not (eqb n 2)) bodyKinds (Kind k) refl h)
+  -- no word of another kind stands among them, as of a table (2) or an assertion (10)
+  pub other-than : (n k : ℕ) → mem n bodyKinds ≡ false → mem (Kind k) bodyKinds ≡ true → eqb (Kind k) n ≡ false
+  other-than n k f h =
+      otherwise (eqb (Kind k) n) (λ e. true-not-false (subst (λ (x : ℕ). mem x bodyKinds ≡ true) (eqb-true e) h) f)
 
   -- ---- the readers
   only-kind : (n i : ℕ) → mem (Kind i) (n ∷ []) ≡ true → Kind i ≡ n
@@ -95,11 +94,12 @@ module _ (ws : List ℕ) where
   at-end l = record { starts = inl l; no-table = λ k h m. let x : ⊥ = omega arith in absurd x }
 
   before-more : {i j : ℕ} → Kind i ≡ 10 → Spans (suc i) j → Closing j → Closing i
+  unfolding mem
   before-more {i} {j} e s h = record { starts = inr e; no-table = λ k l m. go k l m (decLe j k) (decLe (suc i) k) }
     where
       go : (k : ℕ) → i ≤ k → k < length ws → Dec (j ≤ k) → Dec (i < k) → eqb (Kind k) 2 ≡ false
       go k l m (yes n) o = h .no-table k n m
-      go k l m (no n) (yes o) = no-table-kind k (s .kinds k o (omega arith))
+      go k l m (no n) (yes o) = other-than 2 k refl (s .kinds k o (omega arith))
       go k l m (no n) (no o) = let q : i ≡ k = omega arith in subst (λ (x : ℕ). eqb (Kind x) 2 ≡ false) q (rw e)
 
   module _ (vs : List Variable) where
