@@ -1,0 +1,12 @@
+use Rattle.word.proofs.Mask.{kind-below, is-clear}
+use borrow.Author.Rules.{rules}
+use Rattle.word.proofs.spare_clear.Goals as goal
+
+pub spare_low-requires : goal.spare_low-requires
+spare_low-requires c = search kind-below
+
+pub spare_width-requires : goal.spare_width-requires
+spare_width-requires c = search kind-below
+
+pub returns : goal.returns
+returns c = search is-clear
