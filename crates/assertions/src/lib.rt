@@ -1,3 +1,4 @@
+#![tactic(auto)]
 // The assertions at given values. The first stands at `at`; the next begins where a formula ends.
 ghost use Rattle.std.specs.Prelude.{◌≡◌};
 ghost use Rattle.word.specs.Limits as Max;

@@ -1,3 +1,4 @@
+#![tactic(auto)]
 // Conditions, events and rows of a table, judged straight from the words of a set that has been read.
 // A formula is judged from its first word on; where it ends is found on the way, so no tree is built and no place is kept.
 ghost use Rattle.std.specs.Prelude.{◌≡◌, ◌&&◌, eqb};

@@ -1,3 +1,4 @@
+#![tactic(auto)]
 // Which variable reads which, as one mask for each variable, with a bit for each that it reads; the dependency order; and the cycle shown where variables
 // are stuck (document 01, "States and steps", and refusal 9). All of it from the words of a set that has been read and its places.
 ghost use Rattle.std.specs.Prelude.{◌≡◌, not, ◌||◌, ◌≤◌, ◌<◌, length, get_or, take};

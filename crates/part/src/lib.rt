@@ -1,3 +1,4 @@
+#![tactic(auto)]
 // The part of the words that is a table: from its table word to before the next table or assertion, or to the end.
 ghost use Rattle.std.specs.Prelude.{◌≡◌, ◌+◌, ◌<◌, length};
 ghost use Rattle.meaning.specs.Calls.{isTableOf, endsTable};

@@ -1,3 +1,4 @@
+#![tactic(auto)]
 // All that the program prints, made by one function of the bytes of its input.
 mod decimal; // decimal numbers into a buffer
 mod input; // bytes to words

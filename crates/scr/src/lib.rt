@@ -1,3 +1,4 @@
+#![tactic(auto)]
 // The public face: the answers, and the entries with their promises. Every entry takes words, states, events and lists of every content and
 // length. It promises an equation for all that it gives and writes, and demand 1 (AnswersOrRefuses, RunAnswers, RowsAnswers); demands 2 and 3
 // stand where they speak of the entry.

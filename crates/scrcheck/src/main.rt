@@ -1,3 +1,4 @@
+#![tactic(auto)]
 // The program: a set and its events from standard input, checked and run. What it prints is report's, byte by byte. That all of the input is read and
 // all of the output written, or that standard error says otherwise, is tested (tests/program): no contract says it.
 mod input; // the input, read to its end

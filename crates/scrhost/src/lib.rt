@@ -1,3 +1,4 @@
+#![tactic(auto)]
 // The machine host: check and step over bytes, for C. include/scr.h declares both functions.
 mod numbers; // answers as numbers
 mod words; // bytes to words

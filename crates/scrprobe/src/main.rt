@@ -1,3 +1,4 @@
+#![tactic(auto)]
 // The probe: one entry called on arguments from standard input, and all of its effect printed, for tests and for the curious.
 //
 // The input is words of 32 bits, lowest byte first; what is missing counts as zeros:

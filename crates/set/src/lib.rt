@@ -1,3 +1,4 @@
+#![tactic(auto)]
 // The reading of a set, whole: refusals 1 to 9, and the index that everything above works with.
 ghost use Rattle.std.specs.Prelude.{◌≡◌, length};
 ghost use Rattle.word.specs.Limits as Max;
