@@ -1,0 +1,9 @@
+use Rattle.index.proofs.BitLaws.{bit-none, bit-one}
+use borrow.Author.Rules.{rules}
+use Rattle.index.proofs.bits.one_bit.Goals as goal
+
+pub returns-then-v-ge-MAX_VARIABLES : goal.returns-then-v-ge-MAX_VARIABLES
+returns-then-v-ge-MAX_VARIABLES c = search bit-none
+
+pub returns : goal.returns
+returns c = search bit-one

@@ -1,0 +1,6 @@
+use Rattle.index.proofs.Laws.{past-none}
+use borrow.Author.Rules.{rules}
+use Rattle.index.proofs.number_at.Goals as goal
+
+pub returns-else-i-numbers : goal.returns-else-i-numbers
+returns-else-i-numbers c = search past-none

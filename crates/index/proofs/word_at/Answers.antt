@@ -1,0 +1,6 @@
+use Rattle.index.proofs.Laws.{word-is}
+use borrow.Author.Rules.{rules}
+use Rattle.index.proofs.word_at.Goals as goal
+
+pub returns : goal.returns
+returns c = search word-is
