@@ -1,0 +1,7 @@
+use borrow.Author.Rules.{rules}
+use Rattle.order.proofs.Scans.{condition-laws}
+use Prim.Native.Nat.{ℕ, ◌<◌}
+use Rattle.order.proofs.+condition_mask.Given as goal
+
+abbrev pub decreases-condition_mask : goal.decreases-condition_mask
+decreases-condition_mask l = l.left

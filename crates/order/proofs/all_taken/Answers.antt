@@ -1,0 +1,19 @@
+use borrow.Author.Rules.{rules}
+use mathlib.Core.Path.{◌≡◌}
+use mathlib.Core.Bool.{true}
+use Prim.Native.Nat.{◌≤◌, ◌-◌}
+use Rattle.order.specs.Orders.{covered}
+use Rattle.order.proofs.Takes.{covered_start, covered-no, covered-on, covered-all}
+use Rattle.order.proofs.all_taken.Goals as goal
+
+pub loop-b-init : goal.loop-b-init
+loop-b-init c = (search rules, search covered_start)
+
+pub returns-then-missing : goal.returns-then-missing
+returns-then-missing c = search covered-no
+
+pub loop-b-preserved : goal.loop-b-preserved
+loop-b-preserved c = (search rules, search covered-on)
+
+pub returns : goal.returns
+returns c = search covered-all

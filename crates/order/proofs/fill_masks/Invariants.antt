@@ -1,0 +1,13 @@
+use borrow.Author.Rules.{rules}
+use Rattle.word.specs.Limits as Max
+use mathlib.Core.Path.{◌≡◌}
+use Prim.Native.Nat.{◌≤◌, ◌-◌}
+use lib.ListN.{length, take, length-set}
+use Rattle.order.proofs.Scans.{masksTo, masks-none, masks-on, masks-all}
+use Rattle.order.proofs.fill_masks.Given as goal
+
+abbrev pub invariant-loop-v : goal.invariant-loop-v
+invariant-loop-v l = (l.v ≤ Max.max-variables) × (length l.masks ≡ Max.max-variables) × (take l.v l.masks ≡ masksTo l.words l.places l.v)
+
+abbrev pub decreases-loop-v : goal.decreases-loop-v
+decreases-loop-v l = Max.max-variables - l.v

@@ -1,0 +1,9 @@
+use Rattle.order.proofs.Scans.{formula-condition, formula-event}
+use borrow.Author.Rules.{rules}
+use Rattle.order.proofs.formula_mask.Goals as goal
+
+pub returns-then-t-eq-CONDITION_TABLE : goal.returns-then-t-eq-CONDITION_TABLE
+returns-then-t-eq-CONDITION_TABLE c = search formula-condition
+
+pub returns-else-t-eq-CONDITION_TABLE : goal.returns-else-t-eq-CONDITION_TABLE
+returns-else-t-eq-CONDITION_TABLE c = search formula-event

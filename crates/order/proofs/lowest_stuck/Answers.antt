@@ -1,0 +1,20 @@
+use borrow.Author.Rules.{rules}
+use mathlib.Core.Path.{◌≡◌}
+use mathlib.Core.Option.{none}
+use Prim.Native.Nat.{◌≤◌, ◌-◌}
+use Rattle.meaning.specs.Searches.{least}
+use Rattle.order.specs.Orders.{untakenBy}
+use Rattle.order.proofs.Takes.{least_start, stuck-found, stuck-on, stuck-none}
+use Rattle.order.proofs.lowest_stuck.Goals as goal
+
+pub loop-v-init : goal.loop-v-init
+loop-v-init c = (search rules, search least_start)
+
+pub returns-then-untaken : goal.returns-then-untaken
+returns-then-untaken c = search stuck-found
+
+pub loop-v-preserved : goal.loop-v-preserved
+loop-v-preserved c = (search rules, search stuck-on)
+
+pub returns : goal.returns
+returns c = search stuck-none

@@ -1,0 +1,6 @@
+use Rattle.order.proofs.Takes.{missing-is}
+use borrow.Author.Rules.{rules}
+use Rattle.order.proofs.missing.Goals as goal
+
+pub returns : goal.returns
+returns c = search missing-is

@@ -1,0 +1,20 @@
+use borrow.Author.Rules.{rules}
+use mathlib.Core.Path.{◌≡◌}
+use mathlib.Core.Option.{none}
+use Prim.Native.Nat.{◌≤◌, ◌-◌}
+use Rattle.meaning.specs.Searches.{least}
+use Rattle.order.specs.Orders.{stuckRead}
+use Rattle.order.proofs.Takes.{least_start, move-found, move-next, move-none}
+use Rattle.order.proofs.move_on.Goals as goal
+
+pub loop-b-init : goal.loop-b-init
+loop-b-init c = (search rules, search least_start)
+
+pub returns-then-stuck_read : goal.returns-then-stuck_read
+returns-then-stuck_read c = search move-found
+
+pub loop-b-preserved : goal.loop-b-preserved
+loop-b-preserved c = (search rules, search move-next)
+
+pub returns : goal.returns
+returns c = search move-none

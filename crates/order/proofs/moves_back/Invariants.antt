@@ -1,0 +1,14 @@
+use borrow.Author.Rules.{rules}
+use mathlib.Core.Path.{◌≡◌}
+use mathlib.Core.Option.{none}
+use Prim.Native.Nat.{◌≤◌, ◌-◌}
+use Rattle.meaning.specs.Searches.{least, iterate}
+use Rattle.order.specs.Orders.{moveBy, homeBy}
+use Rattle.order.proofs.Takes.{least_start, moves-none, moves-on, back_found, back_on, back_none}
+use Rattle.order.proofs.moves_back.Given as goal
+
+abbrev pub invariant-loop-k : goal.invariant-loop-k
+invariant-loop-k l = (l.k ≤ l.n) × (l.u ≡ iterate (moveBy l.masks l.n l.taken) l.k l.w) × (least (homeBy l.masks l.n l.taken l.w) l.k ≡ none)
+
+abbrev pub decreases-loop-k : goal.decreases-loop-k
+decreases-loop-k l = l.n - l.k

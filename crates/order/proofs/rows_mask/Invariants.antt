@@ -1,0 +1,13 @@
+use borrow.Author.Rules.{rules}
+use Rattle.word.specs.Limits as Max
+use mathlib.Core.Path.{◌≡◌, refl}
+use Prim.Native.Nat.{◌≤◌, ◌-◌}
+use Rattle.order.specs.Masks.{rowsMask}
+use Rattle.order.proofs.Scans.{rows-past, rows_last, rows_on, rows_all}
+use Rattle.order.proofs.rows_mask.Given as goal
+
+abbrev pub invariant-loop-i : goal.invariant-loop-i
+invariant-loop-i l = (l.i ≤ Max.max-rows) × (rowsMask l.words l.t (Max.max-rows - l.i) l.on l.mask ≡ rowsMask l.words l.t Max.max-rows l.at l.first)
+
+abbrev pub decreases-loop-i : goal.decreases-loop-i
+decreases-loop-i l = Max.max-rows - l.i

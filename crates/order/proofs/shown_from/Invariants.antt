@@ -1,0 +1,14 @@
+use borrow.Author.Rules.{rules}
+use Rattle.word.specs.Limits as Max
+use mathlib.Core.Path.{◌≡◌}
+use Prim.Native.Nat.{◌≤◌, ◌-◌}
+use Rattle.meaning.specs.Searches.{iterate}
+use Rattle.order.specs.Orders.{moveBy}
+use Rattle.order.proofs.Takes.{moves-none, moves-on, moves-all}
+use Rattle.order.proofs.shown_from.Given as goal
+
+abbrev pub invariant-loop-i : goal.invariant-loop-i
+invariant-loop-i l = (l.i ≤ Max.cycle-moves) × (l.u ≡ iterate (moveBy l.masks l.n l.taken) l.i l.v)
+
+abbrev pub decreases-loop-i : goal.decreases-loop-i
+decreases-loop-i l = Max.cycle-moves - l.i

@@ -1,0 +1,6 @@
+use Rattle.order.proofs.Takes.{untaken-is}
+use borrow.Author.Rules.{rules}
+use Rattle.order.proofs.untaken.Goals as goal
+
+pub returns : goal.returns
+returns c = search untaken-is

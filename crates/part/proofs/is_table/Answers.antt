@@ -1,0 +1,6 @@
+use Rattle.part.proofs.Laws.{is-table-is}
+use borrow.Author.Rules.{rules}
+use Rattle.part.proofs.is_table.Goals as goal
+
+pub returns : goal.returns
+returns c = search is-table-is

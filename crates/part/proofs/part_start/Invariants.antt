@@ -1,0 +1,12 @@
+use borrow.Author.Rules.{rules}
+use Rattle.meaning.specs.Calls.{isTableOf}
+use Rattle.meaning.specs.Searches.{least}
+use lib.ListN.{length}
+use Prim.Native.Nat.{◌≤◌, ◌-◌}
+use mathlib.Core.Option.{none}
+use mathlib.Core.Path.{◌≡◌, refl}
+use Rattle.part.proofs.Laws.{start-here, start-on, start_none}
+use Rattle.part.proofs.part_start.Given as goal
+
+abbrev pub invariant-loop-i : goal.invariant-loop-i
+invariant-loop-i l = (l.i ≤ length l.words) × (least (isTableOf l.words l.variable) l.i ≡ none)
