@@ -1,0 +1,5 @@
+use Rattle.judge.proofs.Laws.{mode-law}
+use Rattle.judge.proofs.mode_is.Goals as goal
+
+pub returns : goal.returns
+returns c = search mode-law
