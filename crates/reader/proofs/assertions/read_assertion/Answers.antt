@@ -1,0 +1,12 @@
+use Rattle.reader.proofs.AssertionLaws.{assertion-laws}
+use borrow.Author.Rules.{rules}
+use Rattle.reader.proofs.assertions.read_assertion.Goals as goal
+
+pub returns-then-words-at : goal.returns-then-words-at
+returns-then-words-at c = search assertion-laws
+
+pub returns-then-k-ne0 : goal.returns-then-k-ne0
+returns-then-k-ne0 c = search assertion-laws
+
+pub returns : goal.returns
+returns c = search assertion-laws

@@ -1,0 +1,9 @@
+use Rattle.reader.proofs.RowLaws.{formula-condition, formula-event}
+use borrow.Author.Rules.{rules}
+use Rattle.reader.proofs.rows.read_formula.Goals as goal
+
+pub returns-then-t-eq-CONDITION_TABLE : goal.returns-then-t-eq-CONDITION_TABLE
+returns-then-t-eq-CONDITION_TABLE c = search formula-condition
+
+pub returns-else-t-eq-CONDITION_TABLE : goal.returns-else-t-eq-CONDITION_TABLE
+returns-else-t-eq-CONDITION_TABLE c = search formula-event

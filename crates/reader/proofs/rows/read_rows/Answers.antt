@@ -1,0 +1,28 @@
+use borrow.Author.Rules.{rules}
+use mathlib.Core.Path.{◌≡◌, refl}
+use Prim.Native.Nat.{◌≤◌, ◌-◌}
+use Rattle.word.specs.Limits as Max
+use Rattle.index.specs.Places.{variablesTo}
+use Rattle.reader.specs.Formulas.{rowsReach}
+use Rattle.reader.proofs.RowLaws.{rows-refused, rows_end, rows_on, rows-over}
+use Rattle.reader.proofs.rows.read_rows.Goals as goal
+
+pub loop-i-init : goal.loop-i-init
+loop-i-init c = (search rules, refl)
+
+pub returns-in-Refused : goal.returns-in-Refused
+returns-in-Refused c = search rows-refused
+
+pub returns-then-kind-ne-ROW : goal.returns-then-kind-ne-ROW
+returns-then-kind-ne-ROW c = search rows_end
+
+pub loop-i-preserved : goal.loop-i-preserved
+loop-i-preserved c =
+    (
+      search rules,
+      rows_on _ _ _ _ _ _ _ _ _ _ _ _ c.in-Next.is c.read_row-row.ensures c.word_at-w.ensures
+          c.kind.ensures c.if-kind-ne-ROW.false (search rules) (search rules),
+    )
+
+pub returns : goal.returns
+returns c = search rows-over

@@ -1,0 +1,12 @@
+use Rattle.reader.proofs.TableLaws.{table-laws}
+use borrow.Author.Rules.{rules}
+use Rattle.reader.proofs.tables.read_table.Goals as goal
+
+pub returns-then-words-at : goal.returns-then-words-at
+returns-then-words-at c = search table-laws
+
+pub returns-then-k-ne0 : goal.returns-then-k-ne0
+returns-then-k-ne0 c = search table-laws
+
+pub returns : goal.returns
+returns c = search table-laws

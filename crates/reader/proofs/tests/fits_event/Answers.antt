@@ -1,0 +1,6 @@
+use Rattle.reader.proofs.TestLaws.{event-kind}
+use borrow.Author.Rules.{rules}
+use Rattle.reader.proofs.tests.fits_event.Goals as goal
+
+pub returns : goal.returns
+returns c = search event-kind

@@ -1,0 +1,6 @@
+use Rattle.reader.proofs.TestLaws.{one-kind}
+use borrow.Author.Rules.{rules}
+use Rattle.reader.proofs.tests.fits_kind.Goals as goal
+
+pub returns : goal.returns
+returns c = search one-kind

@@ -1,0 +1,9 @@
+use Rattle.reader.proofs.TestLaws.{mode-table-fits, other-table-fits}
+use borrow.Author.Rules.{rules}
+use Rattle.reader.proofs.tests.table_fits.Goals as goal
+
+pub returns-then-sort-eq-MODE_TABLE : goal.returns-then-sort-eq-MODE_TABLE
+returns-then-sort-eq-MODE_TABLE c = search mode-table-fits
+
+pub returns-else-sort-eq-MODE_TABLE : goal.returns-else-sort-eq-MODE_TABLE
+returns-else-sort-eq-MODE_TABLE c = search other-table-fits
