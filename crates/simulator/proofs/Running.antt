@@ -5,8 +5,6 @@ use Prim.Native.Nat.{ℕ, ◌+◌, ◌≤◌, ◌<◌}
 use native.Mathlib.Numerals.{add-one}
 use lib.ListN.{length, get_or, set, drop, drop_of_length-le}
 use lib.Seq.{sets, drop-cons}
-use types.Run.{OneOf, miss}
-use denote.Enum.Declared.{tag_of}
 use Rattle.meaning.specs.Answers.{Outcome, ok, refuse}
 use Rattle.meaning.specs.Steps.{Input, input_of}
 use Rattle.meaning.specs.Run.{Ran}
@@ -15,15 +13,14 @@ use Rattle.simulator.specs.declared.Stepped.TheVariants as R
 use Rattle.simulator.specs.declared.run.Ended.TheVariants as E
 use Rattle.simulator.specs.StepIndex.{steppedSays, stepIndex}
 use Rattle.simulator.specs.RunIndex.{endedSays, runIndex}
-use Rattle.simulator.specs.contracts.Stepped.{the_type}
 
--- the step gave no state, as the code finds it: its answer is at another case than the first
+-- the step gave no state, as the code finds it
 abbrev Stopped : Stepped → Type 0
-Stopped r = OneOf (1 ∷ 2 ∷ 3 ∷ 4 ∷ []) (tag_of the_type r)
+Stopped r = (t : ℕ) → r ≡ R.State t → ⊥
 
 stopped-refuses : (s : ℕ) (e : Input) (r : Stepped) → Stopped r → (k : ℕ) × (xs : List ℕ) × (steppedSays s e r ≡ refuse k xs)
 unfolding steppedSays
-stopped-refuses s e (R.State t) h = absurd (miss (1 ∷ 2 ∷ 3 ∷ 4 ∷ []) 0 tt h)
+stopped-refuses s e (R.State t) h = absurd (h t refl)
 stopped-refuses s e (R.NotEnabled i) h = (_, _, refl)
 stopped-refuses s e (R.Gap side v) h = (_, _, refl)
 stopped-refuses s e (R.Overlap side v i j) h = (_, _, refl)

@@ -1,0 +1,19 @@
+use borrow.Author.Rules.{rules}
+use Rattle.word.specs.Limits as Max
+use Rattle.assertions.proofs.Laws.{count-start, count-end, count-on, count-all}
+use Prim.Native.Nat.{◌≤◌, ◌-◌, ◌+◌}
+use mathlib.Core.Path.{◌≡◌}
+use Rattle.assertions.specs.Assertions.{countFrom}
+use Rattle.assertions.proofs.count_assertions.Goals as goal
+
+pub loop-j-init : goal.loop-j-init
+loop-j-init c = (search rules, search count-start)
+
+pub returns-then-words-on : goal.returns-then-words-on
+returns-then-words-on c = search count-end
+
+pub loop-j-preserved : goal.loop-j-preserved
+loop-j-preserved c = (search rules, search count-on)
+
+pub returns : goal.returns
+returns c = search count-all

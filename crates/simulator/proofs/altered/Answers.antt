@@ -1,0 +1,12 @@
+use Rattle.simulator.proofs.Laws.{altered-other, altered-past, altered-here}
+use borrow.Author.Rules.{rules}
+use Rattle.simulator.proofs.altered.Goals as goal
+
+pub returns-then-v-variable : goal.returns-then-v-variable
+returns-then-v-variable c = search altered-other
+
+pub returns-then-before-v : goal.returns-then-before-v
+returns-then-before-v c = search altered-past
+
+pub returns : goal.returns
+returns c = search altered-here

@@ -1,0 +1,6 @@
+use borrow.Author.Rules.{rules}
+use Rattle.simulator.proofs.Laws.{front-whole}
+use Rattle.simulator.proofs.copy.Goals as goal
+
+pub returns : goal.returns
+returns c = search front-whole

@@ -1,0 +1,12 @@
+use Rattle.simulator.proofs.Laws.{in-none, in_held, in-condition}
+use borrow.Author.Rules.{rules}
+use Rattle.simulator.proofs.given_in.Goals as goal
+
+pub returns-then-p-eq0 : goal.returns-then-p-eq0
+returns-then-p-eq0 c = search in-none
+
+pub returns-then-sort-ne-CONDITION_TABLE : goal.returns-then-sort-ne-CONDITION_TABLE
+returns-then-sort-ne-CONDITION_TABLE c = search in_held
+
+pub returns : goal.returns
+returns c = search in-condition

@@ -1,0 +1,14 @@
+use borrow.Author.Rules.{rules}
+use Rattle.simulator.specs.RunIndex.{runIndex}
+use lib.Seq.{sets}
+use lib.ListN.{length, drop, length-set}
+use Prim.Native.Nat.{◌≤◌, ◌-◌}
+use Rattle.simulator.proofs.Running.{run-end-answer, run-end-trace, run-on-answer, run-on-trace, run-stop-answer, run-stop-trace}
+use mathlib.Core.Path.{◌≡◌, refl}
+use Rattle.simulator.proofs.run.run_events.Given as goal
+
+abbrev pub invariant-loop-i : goal.invariant-loop-i
+invariant-loop-i l = (l.i ≤ length l.events) × (length l.before ≡ l.n) × (length l.after ≡ l.n) × (length l.trace ≡ length l.initial.trace)
+    × ((runIndex l.words l.places l.weights l.order l.n l.i l.last (drop l.i l.events)).last ≡ (runIndex l.words l.places l.weights l.order l.n 0 l.s l.events).last)
+    × (sets l.trace l.i (runIndex l.words l.places l.weights l.order l.n l.i l.last (drop l.i l.events)).done
+    ≡ sets l.initial.trace 0 (runIndex l.words l.places l.weights l.order l.n 0 l.s l.events).done)

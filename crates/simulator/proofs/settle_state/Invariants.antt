@@ -1,0 +1,10 @@
+use borrow.Author.Rules.{rules}
+use Rattle.simulator.specs.Walks.{stateWalk}
+use lib.ListN.{length, drop}
+use Prim.Native.Nat.{◌≤◌, ◌-◌}
+use mathlib.Core.Path.{◌≡◌, refl}
+use Rattle.simulator.proofs.Laws.{kept-length, state-done, state-gap, state-overlap, state-step, state-on}
+use Rattle.simulator.proofs.settle_state.Given as goal
+
+abbrev pub invariant-loop-i : goal.invariant-loop-i
+invariant-loop-i l = (l.i ≤ length l.order) × (length l.values ≡ length l.initial.values) × (stateWalk l.words l.places l.weights l.s (drop l.i l.order) l.values ≡ stateWalk l.words l.places l.weights l.s l.order l.initial.values)

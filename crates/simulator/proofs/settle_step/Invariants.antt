@@ -1,0 +1,10 @@
+use borrow.Author.Rules.{rules}
+use Rattle.simulator.specs.Walks.{stepWalk}
+use lib.ListN.{length, drop}
+use Prim.Native.Nat.{◌≤◌, ◌-◌}
+use mathlib.Core.Path.{◌≡◌, refl}
+use Rattle.simulator.proofs.Laws.{kept-length, step-done, step-gap, step-overlap, step-step, step-on}
+use Rattle.simulator.proofs.settle_step.Given as goal
+
+abbrev pub invariant-loop-i : goal.invariant-loop-i
+invariant-loop-i l = (l.i ≤ length l.order) × (length l.after ≡ length l.initial.after) × (stepWalk l.words l.places l.before l.variable l.value (drop l.i l.order) l.after ≡ stepWalk l.words l.places l.before l.variable l.value l.order l.initial.after)

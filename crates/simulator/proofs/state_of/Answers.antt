@@ -1,0 +1,6 @@
+use Rattle.simulator.proofs.Laws.{state-is}
+use borrow.Author.Rules.{rules}
+use Rattle.simulator.proofs.state_of.Goals as goal
+
+pub returns : goal.returns
+returns c = search state-is
