@@ -21,8 +21,8 @@ use Rattle.scr.specs.Answers.{refusalSays, refused, answerSays}
 use Rattle.scr.specs.Telling.{Tells}
 
 -- ---- a refusal as numbers, its case being known
-pub told-case : (t : Told) (q q' : Refusal) → q ≡ q' → Tells t (refusalSays q') → Tells t (refusalSays q)
-told-case t q q' e h = rw e h
+pub told_case : (t : Told) (q q' : Refusal) → q ≡ q' → Tells t (refusalSays q') → Tells t (refusalSays q)
+told_case t q q' e h = rw e h
 
 -- ---- of reading, before the dependency order
 module _ (k x : ℕ) where

@@ -29,21 +29,21 @@ use word::Value;
 // ---- answers
 
 // An input event: a monitored variable and its new value.
-#[derive(Drop)]
+#[derive(Clone, Copy)]
 pub struct Input {
     pub variable: usize,
     pub value: Value,
 }
 
 // The cycle shown: a variable and the number of moves back to it.
-#[derive(Drop)]
+#[derive(Clone, Copy)]
 pub struct Cycle {
     pub variable: usize,
     pub length: usize,
 }
 
 // A condition table without a row that holds. Side 0 is the state given, 1 the one after a step, which carries the state before.
-#[derive(Drop)]
+#[derive(Clone, Copy)]
 pub struct Gap {
     pub side: u32,
     pub state: u32,
@@ -51,7 +51,7 @@ pub struct Gap {
 }
 
 // The lowest two rows of a condition table that hold together.
-#[derive(Drop)]
+#[derive(Clone, Copy)]
 pub struct Overlap {
     pub side: u32,
     pub state: u32,
@@ -61,7 +61,7 @@ pub struct Overlap {
 }
 
 // The lowest two rows of a mode or event table that hold together in a step.
-#[derive(Drop)]
+#[derive(Clone, Copy)]
 pub struct StepOverlap {
     pub state: u32,
     pub input: Input,
@@ -71,7 +71,7 @@ pub struct StepOverlap {
 }
 
 // An assertion and the step that breaks it.
-#[derive(Drop)]
+#[derive(Clone, Copy)]
 pub struct Broken {
     pub assertion: usize,
     pub state: u32,
@@ -79,7 +79,7 @@ pub struct Broken {
 }
 
 // Document 01's refusals, each with what it carries. specs/Answers gives each its number.
-#[derive(Drop)]
+#[derive(Clone, Copy)]
 pub enum Refusal {
     Length(usize),
     Kind(usize),
@@ -101,14 +101,14 @@ pub enum Refusal {
 }
 
 // A state, or the refusal.
-#[derive(Drop)]
+#[derive(Clone, Copy)]
 pub enum Answer {
     State(u32),
     Refused(Refusal),
 }
 
 // What a pass carries: how many typed states, typed steps and assertions the set has.
-#[derive(Drop)]
+#[derive(Clone, Copy)]
 pub struct Counts {
     pub states: u32,
     pub steps: u64,
@@ -116,14 +116,14 @@ pub struct Counts {
 }
 
 // A pass, or the refusal.
-#[derive(Drop)]
+#[derive(Clone, Copy)]
 pub enum Verdict {
     Pass(Counts),
     Refused(Refusal),
 }
 
 // The number of values written, or the refusal.
-#[derive(Drop)]
+#[derive(Clone, Copy)]
 pub enum Count {
     Written(usize),
     Refused(Refusal),

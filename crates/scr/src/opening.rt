@@ -8,7 +8,7 @@ use set::{SetRead, read_set};
 use word::MAX_VARIABLES;
 
 // Does the set read?
-#[derive(Drop)]
+#[derive(Clone, Copy)]
 pub enum Reading {
     Set,
     Refused(Refusal),

@@ -83,6 +83,7 @@ fn six(number: u32, a: u64, b: u64, c: u64, d: u64, e: u64, f: u64) -> Told
     }
 }
 
+#[tactic(auto, using(crate::proofs::Refusing::told_case), unfolding(crate::specs::Answers::refusalSays))]
 pub fn tell(q: Refusal) -> Told
     ensures { Tells result (refusalSays q) }
 {

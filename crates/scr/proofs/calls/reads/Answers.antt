@@ -1,0 +1,9 @@
+use Rattle.scr.proofs.Calling.{reads-refused, reads-set}
+use borrow.Author.Rules.{rules}
+use Rattle.scr.proofs.calls.reads.Goals as goal
+
+pub returns-in-Refused : goal.returns-in-Refused
+returns-in-Refused c = search reads-refused
+
+pub returns-in-Set : goal.returns-in-Set
+returns-in-Set c = search reads-set
