@@ -3,8 +3,6 @@ use mathlib.Core.Path.{◌≡◌, refl, ap, ◌∙◌}
 use mathlib.Core.List.{List, [], ◌∷◌}
 use Prim.Native.Nat.{ℕ}
 use lib.ListN.{length, take, replicate, length-replicate}
-use types.Run.{OneOf, miss}
-use denote.Enum.Declared.{tag_of}
 use Rattle.word.specs.Limits as Max
 use Rattle.meaning.specs.Answers.{ok}
 use Rattle.meaning.specs.Calls.{start_of}
@@ -16,7 +14,6 @@ use Rattle.scr.specs.declared.Refusal.TheVariants as R
 use Rattle.scr.specs.declared.Answer.{Answer}
 use Rattle.scr.specs.declared.Answer.TheVariants as A
 use Rattle.scr.specs.Answers.{refusalSays, refused, answerSays}
-use Rattle.scr.specs.contracts.Refusal.{the_type}
 use Rattle.report.specs.Text.{buffer, ◌with◌, Puts}
 use Rattle.report.specs.Runs.{Passed, doneBefore, ranLines}
 use Rattle.report.proofs.Putting.{with_none, with-then}
@@ -27,11 +24,8 @@ pub done-16 : (q : Refusal) (i : ℕ) → q ≡ R.NotEnabled i → i ≡ doneBef
 unfolding doneBefore refusalSays
 done-16 q i e = rw e
 
--- the refusal is at another case than 16, as the code finds it
-abbrev Other : List ℕ
-Other = 0 ∷ 1 ∷ 2 ∷ 3 ∷ 4 ∷ 5 ∷ 6 ∷ 7 ∷ 8 ∷ 9 ∷ 10 ∷ 11 ∷ 12 ∷ 13 ∷ 14 ∷ 16 ∷ []
-
-pub done_none : (q : Refusal) → OneOf Other (tag_of the_type q) → 0 ≡ doneBefore (refusalSays q).0 (refusalSays q).1
+-- of another case than 16, as the code finds it
+pub done_none : (q : Refusal) → ((i : ℕ) → q ≡ R.NotEnabled i → ⊥) → 0 ≡ doneBefore (refusalSays q).0 (refusalSays q).1
 unfolding doneBefore refusalSays
 done_none (R.Length n) h = refl
 done_none (R.Kind i) h = refl
@@ -48,7 +42,7 @@ done_none (R.StepOverlap o) h = refl
 done_none (R.FalseInitially j) h = refl
 done_none (R.Broken b) h = refl
 done_none (R.NoState s) h = refl
-done_none (R.NotEnabled i) h = absurd (miss Other 15 tt h)
+done_none (R.NotEnabled i) h = absurd (h i refl)
 done_none (R.Room n) h = refl
 
 -- ---- the lines, by the answer

@@ -1,0 +1,18 @@
+use borrow.Author.Rules.{rules}
+use Rattle.report.proofs.Printing.{events-on, events-end}
+use mathlib.Core.Path.{◌≡◌, refl}
+use Prim.Native.Nat.{◌≤◌, ◌+◌, ◌-◌, ◌*◌}
+use lib.ListN.{length, drop}
+use Rattle.meaning.specs.Program.{eventLines}
+use Rattle.report.specs.Room as Room
+use Rattle.report.specs.Text.{buffer, ◌with◌}
+use Rattle.report.proofs.lines.put_events.Goals as goal
+
+pub loop-i-init : goal.loop-i-init
+loop-i-init c = (search rules, search rules, refl, refl)
+
+pub loop-i-preserved : goal.loop-i-preserved
+loop-i-preserved c = (search rules, search rules, search rules, search events-on)
+
+pub returns : goal.returns
+returns c = record { puts = search events-end; upper_bound = search rules }

@@ -1,0 +1,17 @@
+use borrow.Author.Rules.{rules}
+use Rattle.report.proofs.Printing.{fields-on, fields-end}
+use mathlib.Core.Path.{◌≡◌, refl}
+use Prim.Native.Nat.{◌≤◌, ◌+◌, ◌-◌, ◌*◌}
+use lib.ListN.{length, drop}
+use Rattle.meaning.specs.Program.{fields}
+use Rattle.report.specs.Text.{buffer, ◌with◌}
+use Rattle.report.proofs.lines.put_fields.Goals as goal
+
+pub loop-i-init : goal.loop-i-init
+loop-i-init c = (search rules, search rules, refl, refl)
+
+pub loop-i-preserved : goal.loop-i-preserved
+loop-i-preserved c = (search rules, search rules, search rules, search fields-on)
+
+pub returns : goal.returns
+returns c = record { puts = search fields-end; upper_bound = search rules }

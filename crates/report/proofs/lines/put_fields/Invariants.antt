@@ -1,0 +1,11 @@
+use borrow.Author.Rules.{rules}
+use Rattle.report.proofs.Printing.{fields-on, fields-end}
+use mathlib.Core.Path.{◌≡◌, refl}
+use Prim.Native.Nat.{◌≤◌, ◌+◌, ◌-◌, ◌*◌}
+use lib.ListN.{length, drop}
+use Rattle.meaning.specs.Program.{fields}
+use Rattle.report.specs.Text.{buffer, ◌with◌}
+use Rattle.report.proofs.lines.put_fields.Given as goal
+
+abbrev pub invariant-loop-i : goal.invariant-loop-i
+invariant-loop-i l = (l.i ≤ length l.numbers) × (l.on ≤ l.at + l.i * 21) × (length l.out ≡ length l.initial.out) × (buffer l.out l.on with fields (drop l.i l.numbers) ≡ buffer l.initial.out l.at with fields l.numbers)

@@ -1,0 +1,16 @@
+use borrow.Author.Rules.{rules}
+use Rattle.report.proofs.Printing.{name-none, name-on, name-all}
+use mathlib.Core.Path.{◌≡◌, refl}
+use Prim.Native.Nat.{◌≤◌, ◌+◌, ◌-◌}
+use lib.ListN.{length, take}
+use Rattle.report.specs.Text.{Puts}
+use Rattle.report.proofs.lines.put_name.Goals as goal
+
+pub loop-i-init : goal.loop-i-init
+loop-i-init c = (search rules, search rules, refl, search name-none)
+
+pub loop-i-preserved : goal.loop-i-preserved
+loop-i-preserved c = (search rules, search rules, search rules, search name-on)
+
+pub returns : goal.returns
+returns c = record { puts = search name-all; value = search rules }

@@ -1,0 +1,12 @@
+use borrow.Author.Rules.{rules}
+use Rattle.report.proofs.Parting.{event-here, event-on, event-none}
+use mathlib.Core.Path.{◌≡◌, refl}
+use mathlib.Core.Option.{none}
+use Prim.Native.Nat.{◌≤◌, ◌-◌}
+use lib.ListN.{length}
+use Rattle.meaning.specs.Searches.{least}
+use Rattle.report.specs.Input.{isEvent}
+use Rattle.report.proofs.parts.first_event.Given as goal
+
+abbrev pub invariant-loop-i : goal.invariant-loop-i
+invariant-loop-i l = (l.i ≤ length l.words) × (least (isEvent l.words) l.i ≡ none)

@@ -1,0 +1,6 @@
+use Rattle.report.proofs.Parting.{is-event-is}
+use borrow.Author.Rules.{rules}
+use Rattle.report.proofs.parts.is_event.Goals as goal
+
+pub returns : goal.returns
+returns c = search is-event-is

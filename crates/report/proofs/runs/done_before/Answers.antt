@@ -1,0 +1,9 @@
+use Rattle.report.proofs.Running.{done-16, done_none}
+use borrow.Author.Rules.{rules}
+use Rattle.report.proofs.runs.done_before.Goals as goal
+
+pub returns-in-NotEnabled : goal.returns-in-NotEnabled
+returns-in-NotEnabled c = search done-16
+
+pub returns-in_default : goal.returns-in_default
+returns-in_default c = search done_none

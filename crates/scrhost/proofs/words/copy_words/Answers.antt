@@ -1,0 +1,18 @@
+use borrow.Author.Rules.{rules}
+use mathlib.Core.Path.{◌≡◌, refl}
+use mathlib.Core.List.{◌++◌}
+use Prim.Native.Nat.{◌≤◌, ◌-◌}
+use native.Mathlib.Nat.{sub-zero}
+use lib.ListN.{length, take, length-set}
+use Rattle.meaning.specs.Host.{wordsOfBytes}
+use Rattle.scrhost.proofs.Copying.{copied, copied_all}
+use Rattle.scrhost.proofs.words.copy_words.Goals as goal
+
+pub loop-i-init : goal.loop-i-init
+loop-i-init c = (search rules, refl, rw sub-zero)
+
+pub loop-i-preserved : goal.loop-i-preserved
+loop-i-preserved c = (search rules, simp length-set (search rules), search copied)
+
+pub returns : goal.returns
+returns c = search copied_all

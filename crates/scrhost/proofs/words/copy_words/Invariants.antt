@@ -1,0 +1,15 @@
+use borrow.Author.Rules.{rules}
+use mathlib.Core.Path.{◌≡◌, refl}
+use mathlib.Core.List.{◌++◌}
+use Prim.Native.Nat.{◌≤◌, ◌-◌}
+use native.Mathlib.Nat.{sub-zero}
+use lib.ListN.{length, take, length-set}
+use Rattle.meaning.specs.Host.{wordsOfBytes}
+use Rattle.scrhost.proofs.Copying.{copied, copied_all}
+use Rattle.scrhost.proofs.words.copy_words.Given as goal
+
+abbrev pub invariant-loop-i : goal.invariant-loop-i
+invariant-loop-i l = (l.i ≤ l.n) × (length l.words ≡ length l.initial.words) × (take l.i l.words ++ wordsOfBytes l.bytes (l.n - l.i) l.i ≡ wordsOfBytes l.bytes l.n 0)
+
+abbrev pub decreases-loop-i : goal.decreases-loop-i
+decreases-loop-i l = l.n - l.i
