@@ -1,28 +1,30 @@
+// The program: a set and its events from standard input, checked and run. What it prints is report's, byte by byte.
 #![tactic(auto)]
-// The program: a set and its events from standard input, checked and run. What it prints is report's, byte by byte. That all of the input is read and
-// all of the output written, or that standard error says otherwise, is tested (tests/program): no contract says it.
-mod input; // the input, read to its end
 
-use libc::{STDERR_FILENO, STDIN_FILENO, STDOUT_FILENO};
+use std::alloc::Global;
+use std::io;
+use std::io::{Read, Write};
+use std::process::ExitCode;
 
-fn main() {
-    // The first 8,192 words. What stands beyond them is ignored, a broken word too.
-    let mut bytes = [0u8; report::MAX_INPUT];
-    let got = input::read_to_end(STDIN_FILENO, &mut bytes);
-    if got < 0 {
-        io::write_all(
-            STDERR_FILENO,
-            b"scrcheck: standard input can't be read to its end: no verdict\n",
-        );
-        return;
-    }
-    let n = io::count(got, &bytes);
-    let mut out = [0u8; report::MAX_OUTPUT];
-    let k = report::report(&bytes[..n], &mut out);
-    if !io::write_all(STDOUT_FILENO, &out[..k]) {
-        io::write_all(
-            STDERR_FILENO,
-            b"scrcheck: standard output can't be written: the verdict is not complete\n",
-        );
+// No verdict: the input could not be read to its end, the output not be written, or the memory did not suffice.
+const NO_VERDICT: u8 = 2;
+
+// Reads the input to its end, as far as it is looked at, and writes what the program prints. What stands beyond the first 8,192 words is ignored, a broken
+// word too.
+fn judge<R: Read + Drop, W: Write>(alloc: Global, reader: R, writer: &mut W) -> io::Result<()> {
+    let mut input = Vec::new(alloc);
+    reader.take(report::MAX_INPUT as u64).read_to_end(&mut input)?;
+    let mut output = vec![in alloc; 0u8; report::MAX_OUTPUT]?;
+    let end = report::report(&input, &mut output);
+    writer.write_all(&output[..end])
+}
+
+fn main(rt: HostRuntime) -> ExitCode {
+    match judge(rt.alloc(), rt.stdin(), &mut rt.stdout()) {
+        Ok(()) => ExitCode::SUCCESS,
+        Err(fault) => {
+            let _ = eprintln!(rt; "scrcheck: no verdict, or not all of it: {fault}");
+            ExitCode::from(NO_VERDICT)
+        }
     }
 }
