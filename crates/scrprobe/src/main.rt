@@ -20,7 +20,8 @@ ghost use Rattle.std.specs.Prelude.{◌≤◌, length};
 ghost use Rattle.report.specs.Room as Room;
 
 use index::word_at;
-use libc::{STDIN_FILENO, STDOUT_FILENO};
+use std::io;
+use std::io::Read;
 
 // The longest set and list of events that are taken: longer than any that a set or a run has.
 const MAX_TAKEN: usize = 5000;
@@ -65,12 +66,12 @@ fn probe(words: &[u32], end: usize, out: &mut [u8]) -> usize
     }
 }
 
-fn main() {
-    let mut bytes = [0u8; WORDS * 4];
-    let n = io::read_full(STDIN_FILENO, &mut bytes);
+fn main(rt: HostRuntime) -> io::Result<()> {
+    let mut input = Vec::new(rt.alloc());
+    rt.stdin().take((WORDS * 4) as u64).read_to_end(&mut input)?;
     let mut words = [0u32; WORDS];
-    input::fill(&bytes[..n], &mut words);
+    input::fill(&input, &mut words);
     let mut out = [0u8; ROOM];
-    let end = probe(&words, input::word_count(n), &mut out);
-    io::write_all(STDOUT_FILENO, text::front(&out, end));
+    let end = probe(&words, input::word_count(input.len()), &mut out);
+    rt.write_all(text::front(&out, end))
 }
