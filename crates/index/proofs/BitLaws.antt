@@ -12,9 +12,9 @@ use borrow.Author.Tests.{eq-eqb, ne_eqb, lt-ltb, le-ltb}
 use Rattle.word.specs.Limits as Max
 use Rattle.index.specs.Bits.{bitIn, oneBit}
 
-pub bit_is : (m b : ℕ) → eqb (bit_and (m / 2 ^ b) 1) 1 ≡ bitIn m b
+pub bit-is : (m b : ℕ) → eqb (bit_and (m / 2 ^ b) 1) 1 ≡ bitIn m b
 unfolding bitIn
-bit_is m b = ap (λ (x : ℕ). eqb x 1) (and_mask (m / 2 ^ b) 1)
+bit-is m b = ap (λ (x : ℕ). eqb x 1) (and_mask (m / 2 ^ b) 1)
 
 pub bit-none : (v : ℕ) → Max.max-variables ≤ v → 0 ≡ oneBit v
 unfolding oneBit
@@ -30,8 +30,8 @@ unfolding bitIn
 zero-at b = rw (div-eq_of_lt (pow_pos b))
 
 -- two masks together
-low_or : (a b : ℕ) → bit_or a b % 2 ≡ max (a % 2) (b % 2)
-low_or a b =
+low-or : (a b : ℕ) → bit_or a b % 2 ≡ max (a % 2) (b % 2)
+low-or a b =
     let ha : a % 2 < 2 = mod-lt a (lit< tt) in
     let hb : b % 2 < 2 = mod-lt b (lit< tt) in
     rw (or_step a b) (omega arith)
@@ -45,10 +45,10 @@ max-bits (suc zero) (suc zero) h k = refl
 max-bits (suc zero) (suc (suc q)) h k = absurd (omega arith)
 max-bits (suc (suc p)) q h k = absurd (omega arith)
 
-pub or_at : (x y b : ℕ) → bitIn (bit_or x y) b ≡ bitIn x b || bitIn y b
+pub or-at : (x y b : ℕ) → bitIn (bit_or x y) b ≡ bitIn x b || bitIn y b
 unfolding bitIn
-or_at x y b =
-    rw (or_shr x y b, low_or (x / 2 ^ b) (y / 2 ^ b))
+or-at x y b =
+    rw (or_shr x y b, low-or (x / 2 ^ b) (y / 2 ^ b))
     (max-bits (x / 2 ^ b % 2) (y / 2 ^ b % 2) (mod-lt (x / 2 ^ b) (lit< tt)) (mod-lt (y / 2 ^ b) (lit< tt)))
 
 -- one variable

@@ -11,23 +11,23 @@ use borrow.Author.Tests.{ne_eqb, le-leb, lt-leb, not-true, not-false}
 use Rattle.word.specs.Fields as W
 use Rattle.word.specs.Limits as Max
 use Rattle.meaning.specs.Answers.{if◌then◌else◌}
-use Rattle.meaning.specs.Reading.{word, test_by, test_of}
+use Rattle.meaning.specs.Reading.{word, testBy, testOf}
 use Rattle.meaning.specs.Steps.{true-in, modeIs}
 use Rattle.theory.specs.Loops.{left}
 use Rattle.judge.specs.declared.Judged.{Judged}
 use Rattle.judge.specs.declared.Got.{Got}
 use Rattle.judge.specs.declared.Got.TheVariants.{Nothing, One, Two}
-use Rattle.judge.specs.Judge.{joinedBy, judgeBy, judgeAt, changedBy, changeBy, changeAt, judgeEventBy, judgeEventAt, addRow, rows_at}
+use Rattle.judge.specs.Judge.{joinedBy, judgeBy, judgeAt, changedBy, changeBy, changeAt, judgeEventBy, judgeEventAt, addRow, rowsAt}
 
 -- ---- a test word
 module _ (b : List ℕ) (w v x k t : ℕ) (ev : v ≡ W.variable w) (ex : x ≡ get_or b v 0) (ek : k ≡ W.value w)
     (et : t ≡ W.relation w) where
-  pub test-equal : t ≡ 0 → eqb x k ≡ true-in b (test_of w)
-  unfolding test_of test_by true-in
+  pub test-equal : t ≡ 0 → eqb x k ≡ true-in b (testOf w)
+  unfolding testOf testBy true-in
   test-equal e = rw (ex, ev, ek, ← et, e)
 
-  pub test-most : (t ≡ 0 → ⊥) → leb x k ≡ true-in b (test_of w)
-  unfolding test_of test_by true-in
+  pub test-most : (t ≡ 0 → ⊥) → leb x k ≡ true-in b (testOf w)
+  unfolding testOf testBy true-in
   test-most n = rw (ex, ev, ek, ← et, ne_eqb t 0 n)
 
 pub join-and : (k : ℕ) (a b : Bool) → k ≡ 6 → (a && b) ≡ joinedBy k a b
@@ -62,7 +62,7 @@ module _ (ws b : List ℕ) (n at w k : ℕ) (nz : n ≡ 0 → ⊥) (h : at < len
   judge-arm : (r : Judged) → r ≡ judgeBy b (judgeAt ws b (n - 1)) w at → r ≡ judgeAt ws b n at
   judge-arm r e = e ∙ rw ew (judge-unroll ws b n at nz (lt-leb (length ws) at h))
 
-  pub judge-test : (v : Bool) → k ≡ 4 → v ≡ true-in b (test_of w) → record { value = v; next = at + 1 } ≡ judgeAt ws b n at
+  pub judge-test : (v : Bool) → k ≡ 4 → v ≡ true-in b (testOf w) → record { value = v; next = at + 1 } ≡ judgeAt ws b n at
   unfolding judgeBy
   judge-test v e ev = judge-arm _ (rw (← ek, e, ev, add-one at))
 
@@ -174,37 +174,37 @@ row-law ws w k at ew ek = rw (ek, ew)
 
 -- f judges a row's formula: the conditions of a state, or the events of a step
 module _ (ws : List ℕ) (f : ℕ → Judged) (x : ℕ) where
-  rows-past : (l i p : ℕ) (g : Got) → leb (length ws) p ≡ true → rows_at ws f x l i p g ≡ g
-  unfolding rows_at
+  rows-past : (l i p : ℕ) (g : Got) → leb (length ws) p ≡ true → rowsAt ws f x l i p g ≡ g
+  unfolding rowsAt
   rows-past zero i p g e = refl
   rows-past (suc l) i p g e = rw e
 
-  rows_step : (l i p : ℕ) (g : Got) → leb (length ws) p ≡ false → rows_at ws f x (suc l) i p g
+  rows-step : (l i p : ℕ) (g : Got) → leb (length ws) p ≡ false → rowsAt ws f x (suc l) i p g
       ≡ (if eqb (W.kind (word ws (f (suc p)).next)) 3
-      then (λ _. rows_at ws f x l (suc i) (f (suc p)).next
+      then (λ _. rowsAt ws f x l (suc i) (f (suc p)).next
       (addRow g (modeIs (W.mode (word ws p)) x && (f (suc p)).value) i (W.value (word ws p))))
       else (λ _. addRow g (modeIs (W.mode (word ws p)) x && (f (suc p)).value) i (W.value (word ws p))))
-  unfolding rows_at
-  rows_step l i p g e = rw e
+  unfolding rowsAt
+  rows-step l i p g e = rw e
 
-  module _ (i on : ℕ) (g all : Got) (inv : rows_at ws f x (Max.max-rows - i) i on g ≡ all) where
-    pub rows_out : length ws ≤ on → g ≡ all
-    rows_out h = sym (rows-past (Max.max-rows - i) i on g (le-leb (length ws) on h)) ∙ inv
+  module _ (i on : ℕ) (g all : Got) (inv : rowsAt ws f x (Max.max-rows - i) i on g ≡ all) where
+    pub rows-out : length ws ≤ on → g ≡ all
+    rows-out h = sym (rows-past (Max.max-rows - i) i on g (le-leb (length ws) on h)) ∙ inv
 
-    pub rows_all : Max.max-rows ≤ i → g ≡ all
-    unfolding rows_at
-    rows_all h = let z : Max.max-rows - i ≡ 0 = omega arith in rw z at inv
+    pub rows-all : Max.max-rows ≤ i → g ≡ all
+    unfolding rowsAt
+    rows-all h = let z : Max.max-rows - i ≡ 0 = omega arith in rw z at inv
 
     module _ (w : ℕ) (j : Judged) (r : Got) (q : Bool) (h : i < Max.max-rows) (hl : on < length ws)
         (ej : j ≡ f (on + 1)) (ew : w ≡ word ws on)
         (er : r ≡ addRow g (modeIs (W.mode w) x && j.value) i (W.value w)) (eq : q ≡ eqb (W.kind (word ws j.next)) 3) where
-      turn : (if q then (λ _. rows_at ws f x (Max.max-rows - (i + 1)) (i + 1) j.next r) else (λ _. r)) ≡ all
+      turn : (if q then (λ _. rowsAt ws f x (Max.max-rows - (i + 1)) (i + 1) j.next r) else (λ _. r)) ≡ all
       turn =
           rw (eq, er, ew, ej, add-one on, add-one i)
-          (sym (rows_step (Max.max-rows - suc i) i on g (lt-leb (length ws) on hl)) ∙ (rw (left Max.max-rows i h, add-one i) at inv))
+          (sym (rows-step (Max.max-rows - suc i) i on g (lt-leb (length ws) on hl)) ∙ (rw (left Max.max-rows i h, add-one i) at inv))
 
-      pub rows_end : not q ≡ true → r ≡ all
-      rows_end n = rw (not-true q n) at turn
+      pub rows-end : not q ≡ true → r ≡ all
+      rows-end n = rw (not-true q n) at turn
 
-      pub rows_on : not q ≡ false → rows_at ws f x (Max.max-rows - (i + 1)) (i + 1) j.next r ≡ all
-      rows_on e = rw (not-false q e) at turn
+      pub rows-on : not q ≡ false → rowsAt ws f x (Max.max-rows - (i + 1)) (i + 1) j.next r ≡ all
+      rows-on e = rw (not-false q e) at turn

@@ -10,15 +10,15 @@ use lib.Dec.{eqb, leb, ltb}
 use Rattle.word.specs.Fields as W
 use Rattle.word.specs.Limits as Max
 use Rattle.meaning.specs.Answers.{Parse, fine, stop, ◌>>>◌, expect, if◌then◌else◌}
-use Rattle.meaning.specs.Searches.{mem, within, Hits, no_hit, one_hit, two-hits, andHere, hits}
-use Rattle.meaning.specs.Syntax.{Condition, constant, negation, Event, never, one_of, Variable, Row}
-use Rattle.meaning.specs.Reading.{Read, word, fits, testOk, test_of, conditionKinds, eventKinds, joined, changed, conditionBy, eventBy, row_ok, rows_by, row_of, word_at, readCondition, readEvent, readRow, readRows}
+use Rattle.meaning.specs.Searches.{mem, within, Hits, no-hit, one-hit, two-hits, andHere, hits}
+use Rattle.meaning.specs.Syntax.{Condition, constant, negation, Event, never, one-of, Variable, Row}
+use Rattle.meaning.specs.Reading.{Read, word, fits, testOk, testOf, conditionKinds, eventKinds, joined, changed, conditionBy, eventBy, rowOk, rowsBy, rowOf, wordAt, readCondition, readEvent, readRow, readRows}
 use Rattle.meaning.specs.Steps.{true-in, happens, modeIs, eventRow, conditionRow, rowHolds, rowValue}
 use Rattle.index.proofs.Laws.{past-unfit}
 use Rattle.judge.specs.declared.Judged.{Judged}
 use Rattle.judge.specs.declared.Got.{Got}
 use Rattle.judge.specs.declared.Got.TheVariants.{Nothing}
-use Rattle.judge.specs.Judge.{joinedBy, judgeBy, judgeAt, changedBy, changeBy, changeAt, judgeEventBy, judgeEventAt, addRow, rows_at, conditionRowsAt, eventRowsAt, gotOf}
+use Rattle.judge.specs.Judge.{joinedBy, judgeBy, judgeAt, changedBy, changeBy, changeAt, judgeEventBy, judgeEventAt, addRow, rowsAt, conditionRowsAt, eventRowsAt, gotOf}
 
 -- ---- A claim Q about a reading that says nothing of a refusal: it holds where what comes after the tests meets it.
 module _ {A : Type 0} (Q : Parse A → Type 0) (stops : (n k : ℕ) → Q (stop n k)) where
@@ -26,15 +26,15 @@ module _ {A : Type 0} (Q : Parse A → Type 0) (stops : (n k : ℕ) → Q (stop 
   expected true n i m e = e
   expected false n i m e = stops n i
 
-  none_left : (o : Parse ℕ) (n i : ℕ) → Q (o >>> λ _. stop n i)
-  none_left (fine w) n i = stops n i
-  none_left (stop k l) n i = stops k l
+  none-left : (o : Parse ℕ) (n i : ℕ) → Q (o >>> λ _. stop n i)
+  none-left (fine w) n i = stops n i
+  none-left (stop k l) n i = stops k l
 
 -- a word that fits stands before the end; Q is told whether the place does
 module _ {A : Type 0} (Q : Bool → Parse A → Type 0) (stops : (b : Bool) (n k : ℕ) → Q b (stop n k)) where
   inside : (ws kinds : List ℕ) (i : ℕ) → mem 0 kinds ≡ false → (next : ℕ → Parse A) → Q false (next (word ws i))
-      → Q (leb (length ws) i) (word_at ws kinds i >>> next)
-  unfolding word_at
+      → Q (leb (length ws) i) (wordAt ws kinds i >>> next)
+  unfolding wordAt
   inside ws kinds i z next e = go (fits kinds (word ws i)) refl (leb (length ws) i) refl
     where
       go : (f : Bool) → fits kinds (word ws i) ≡ f → (l : Bool) → leb (length ws) i ≡ l
@@ -91,11 +91,11 @@ condition-agrees vs b read judge agree w i = go (eqb (W.kind w) 4) (eqb (W.kind 
   where
     go : (x y z : Bool)
         → Agrees (true-in b)
-        (if x then (λ _. expect (testOk vs w) 3 i >>> λ _. fine (test_of w, suc i))
+        (if x then (λ _. expect (testOk vs w) 3 i >>> λ _. fine (testOf w, suc i))
         else λ _. if y then (λ _. fine (constant (eqb (W.truth w) 1), suc i))
         else λ _. if z then (λ _. read (suc i) >>> λ r. fine (negation r.0, r.1))
         else λ _. (read (suc i) >>> λ r. read r.1 >>> λ q. fine (joined (eqb (W.kind w) 6) r.0 q.0, q.1)))
-        (if x then (λ _. record { value = true-in b (test_of w); next = suc i })
+        (if x then (λ _. record { value = true-in b (testOf w); next = suc i })
         else λ _. if y then (λ _. record { value = eqb (W.truth w) 1; next = suc i })
         else λ _. if z then (λ _. record { value = not (judge (suc i)).value; next = (judge (suc i)).next })
         else λ _. record {
@@ -103,8 +103,8 @@ condition-agrees vs b read judge agree w i = go (eqb (W.kind w) 4) (eqb (W.kind 
           next = (judge (judge (suc i)).next).next;
         })
     go true y z =
-        expected (λ (m : Read Condition). Agrees (true-in b) m (record { value = true-in b (test_of w); next = suc i })) (λ n k. tt)
-        (testOk vs w) 3 i (fine (test_of w, suc i)) refl
+        expected (λ (m : Read Condition). Agrees (true-in b) m (record { value = true-in b (testOf w); next = suc i })) (λ n k. tt)
+        (testOk vs w) 3 i (fine (testOf w, suc i)) refl
     go false true z = refl
     go false false true = one-agrees (true-in b) (true-in b) negation not (λ c. refl) (read (suc i)) (judge (suc i)) (agree (suc i))
     go false false false =
@@ -114,8 +114,8 @@ condition-agrees vs b read judge agree w i = go (eqb (W.kind w) 4) (eqb (W.kind 
 agrees : (ws : List ℕ) (vs : List Variable) (b : List ℕ) (d i : ℕ) → Agrees (true-in b) (readCondition ws vs d i) (judgeAt ws b d i)
 unfolding readCondition judgeAt mem
 agrees ws vs b zero i =
-    none_left (λ (m : Read Condition). Agrees (true-in b) m (record { value = false; next = i })) (λ n k. tt)
-    (word_at ws conditionKinds i) 4 i
+    none-left (λ (m : Read Condition). Agrees (true-in b) m (record { value = false; next = i })) (λ n k. tt)
+    (wordAt ws conditionKinds i) 4 i
 agrees ws vs b (suc d) i =
     inside
     (λ (l : Bool) (m : Read Condition).
@@ -152,7 +152,7 @@ event-agrees a b event judge agree condition before after agree-a agree-b w i = 
     go : (x y : Bool)
         → Agrees (happens a b)
         (if x then (λ _. expect (eqb (W.truth w) 0) 3 i >>> λ _. fine (never, suc i))
-        else λ _. if y then (λ _. event (suc i) >>> λ r. event r.1 >>> λ q. fine (one_of r.0 q.0, q.1))
+        else λ _. if y then (λ _. event (suc i) >>> λ r. event r.1 >>> λ q. fine (one-of r.0 q.0, q.1))
         else λ _. (expect (within 1 2 (W.sort w)) 3 i >>> λ _. condition (suc i) >>> λ r. condition r.1 >>> λ q.
         fine (changed (eqb (W.sort w) 1) r.0 q.0, q.1)))
         (if x then (λ _. record { value = false; next = suc i })
@@ -166,7 +166,7 @@ event-agrees a b event judge agree condition before after agree-a agree-b w i = 
         expected (λ (m : Read Event). Agrees (happens a b) m (record { value = false; next = suc i })) (λ n k. tt)
         (eqb (W.truth w) 0) 3 i (fine (never, suc i)) refl
     go false true =
-        two-agrees (happens a b) (happens a b) event judge agree one_of ◌||◌ (λ e f. refl)
+        two-agrees (happens a b) (happens a b) event judge agree one-of ◌||◌ (λ e f. refl)
         (event (suc i)) (judge (suc i)) (agree (suc i))
     go false false =
         expected (λ (m : Read Event). Agrees (happens a b) m (changeBy before after w (suc i))) (λ n k. tt)
@@ -179,8 +179,8 @@ events-agree : (ws : List ℕ) (vs : List Variable) (a b : List ℕ) (d i : ℕ)
     → Agrees (happens a b) (readEvent ws vs d i) (judgeEventAt ws a b d i)
 unfolding readEvent judgeEventAt changeAt mem
 events-agree ws vs a b zero i =
-    none_left (λ (m : Read Event). Agrees (happens a b) m (record { value = false; next = i })) (λ n k. tt)
-    (word_at ws eventKinds i) 4 i
+    none-left (λ (m : Read Event). Agrees (happens a b) m (record { value = false; next = i })) (λ n k. tt)
+    (wordAt ws eventKinds i) 4 i
 events-agree ws vs a b (suc d) i =
     inside
     (λ (l : Bool) (m : Read Event).
@@ -206,10 +206,10 @@ foldRows h i g (r ∷ rs) = foldRows h (suc i) (addRow g (h r) i r.value) rs
 add-got : {F : Type 0} (rs : List (Row F)) (s : Hits) (b : Bool) (n : ℕ)
     → addRow (gotOf rs s) b n (rowValue rs n) ≡ gotOf rs (andHere s b n)
 unfolding addRow gotOf andHere
-add-got rs no_hit true n = refl
-add-got rs no_hit false n = refl
-add-got rs (one_hit i) true n = refl
-add-got rs (one_hit i) false n = refl
+add-got rs no-hit true n = refl
+add-got rs no-hit false n = refl
+add-got rs (one-hit i) true n = refl
+add-got rs (one-hit i) false n = refl
 add-got rs (two-hits i j) true n = refl
 add-got rs (two-hits i j) false n = refl
 
@@ -225,10 +225,10 @@ module _ {F : Type 0} (h : Row F → Bool) where
   value-here (p ∷ pre) r suf = value-here pre r suf
 
   module _ (all : List (Row F)) where
-    row_step : (n : ℕ) (r : Row F) → rowHolds h all n ≡ h r → rowValue all n ≡ r.value
+    row-step : (n : ℕ) (r : Row F) → rowHolds h all n ≡ h r → rowValue all n ≡ r.value
         → addRow (gotOf all (hits (rowHolds h all) n)) (h r) n r.value ≡ gotOf all (hits (rowHolds h all) (suc n))
     unfolding hits
-    row_step n r eh ev = rw (← eh, ← ev) (add-got all (hits (rowHolds h all) n) (rowHolds h all n) n)
+    row-step n r eh ev = rw (← eh, ← ev) (add-got all (hits (rowHolds h all) n) (rowHolds h all n) n)
 
     fold-hits : (suf pre : List (Row F)) → all ≡ pre ++ suf
         → foldRows h (length pre) (gotOf all (hits (rowHolds h all) (length pre))) suf ≡ gotOf all (hits (rowHolds h all) (length all))
@@ -239,7 +239,7 @@ module _ {F : Type 0} (h : Row F → Bool) where
         let ev : rowValue all (length pre) ≡ r.value = rw e (value-here pre r suf) in
         let n : length (pre ++ (r ∷ [])) ≡ suc (length pre) = length-append pre (r ∷ []) ∙ add-one (length pre) in
         let ih = fold-hits suf (pre ++ (r ∷ [])) (e ∙ sym (append_assoc pre (r ∷ []) suf)) in
-        rw (row_step (length pre) r eh ev) (rw n at ih)
+        rw (row-step (length pre) r eh ev) (rw n at ih)
 
   fold-all : (all : List (Row F)) → foldRows h 0 Nothing all ≡ gotOf all (hits (rowHolds h all) (length all))
   unfolding hits gotOf
@@ -266,49 +266,49 @@ module _ (ws : List ℕ) (vs : List Variable) {F : Type 0} (t : F → Bool) (for
 
   -- the row of word w whose formula is read as o and judged as j, and the rest
   row-agrees : (l i w : ℕ) (g : Got)
-      → ((q : ℕ) (g' : Got) → RowsAgree h (suc i) g' (readRows ws vs formula v m l q) (rows_at ws f x l (suc i) q g'))
+      → ((q : ℕ) (g' : Got) → RowsAgree h (suc i) g' (readRows ws vs formula v m l q) (rowsAt ws f x l (suc i) q g'))
       → (o : Read F) (j : Judged) → Agrees t o j
       → RowsAgree h i g
-      ((o >>> λ r. fine (row_of w r.0, r.1)) >>> λ r. rows_by (W.kind (word ws r.1)) (readRows ws vs formula v m l) r)
+      ((o >>> λ r. fine (rowOf w r.0, r.1)) >>> λ r. rowsBy (W.kind (word ws r.1)) (readRows ws vs formula v m l) r)
       (if eqb (W.kind (word ws j.next)) 3
-      then (λ _. rows_at ws f x l (suc i) j.next (addRow g (modeIs (W.mode w) x && j.value) i (W.value w)))
+      then (λ _. rowsAt ws f x l (suc i) j.next (addRow g (modeIs (W.mode w) x && j.value) i (W.value w)))
       else (λ _. addRow g (modeIs (W.mode w) x && j.value) i (W.value w)))
-  unfolding row_of rows_by
+  unfolding rowOf rowsBy
   row-agrees l i w g ih (stop n k) j a = tt
   row-agrees l i w g ih (fine p) j a =
       let g' = addRow g (modeIs (W.mode w) x && t p.0) i (W.value w) in
-      let e : g' ≡ addRow g (h (row_of w p.0)) i (W.value w) = rw (row (row_of w p.0)) in
+      let e : g' ≡ addRow g (h (rowOf w p.0)) i (W.value w) = rw (row (rowOf w p.0)) in
       rw a
-      (rest-agrees i p.1 g g' (row_of w p.0) e (eqb (W.kind (word ws p.1)) 3) (readRows ws vs formula v m l p.1)
-      (rows_at ws f x l (suc i) p.1 g') (ih p.1 g'))
+      (rest-agrees i p.1 g g' (rowOf w p.0) e (eqb (W.kind (word ws p.1)) 3) (readRows ws vs formula v m l p.1)
+      (rowsAt ws f x l (suc i) p.1 g') (ih p.1 g'))
 
-  rows_agree : (l i p : ℕ) (g : Got) → RowsAgree h i g (readRows ws vs formula v m l p) (rows_at ws f x l i p g)
-  unfolding readRows readRow rows_at mem
-  rows_agree zero i p g =
-      none_left (λ (o : Read (Row F)). RowsAgree h i g (o >>> λ r. fine (r.0 ∷ [], r.1)) g) (λ n k. tt)
-      (word_at ws (3 ∷ []) p) 4 p
-  rows_agree (suc l) i p g =
+  rows-agree : (l i p : ℕ) (g : Got) → RowsAgree h i g (readRows ws vs formula v m l p) (rowsAt ws f x l i p g)
+  unfolding readRows readRow rowsAt mem
+  rows-agree zero i p g =
+      none-left (λ (o : Read (Row F)). RowsAgree h i g (o >>> λ r. fine (r.0 ∷ [], r.1)) g) (λ n k. tt)
+      (wordAt ws (3 ∷ []) p) 4 p
+  rows-agree (suc l) i p g =
       let w = word ws p in
       let j = f (suc p) in
       let g' = addRow g (modeIs (W.mode w) x && j.value) i (W.value w) in
-      let got = if eqb (W.kind (word ws j.next)) 3 then (λ _. rows_at ws f x l (suc i) j.next g') else (λ _. g') in
-      let rest : Row F × ℕ → Read (List (Row F)) = λ r. rows_by (W.kind (word ws r.1)) (readRows ws vs formula v m l) r in
+      let got = if eqb (W.kind (word ws j.next)) 3 then (λ _. rowsAt ws f x l (suc i) j.next g') else (λ _. g') in
+      let rest : Row F × ℕ → Read (List (Row F)) = λ r. rowsBy (W.kind (word ws r.1)) (readRows ws vs formula v m l) r in
       let Q : Read (Row F) → Type 0 = λ o. RowsAgree h i g (o >>> rest) got in
       inside
       (λ (b : Bool) (o : Read (Row F)). RowsAgree h i g (o >>> rest) (if b then (λ _. g) else (λ _. got)))
       (λ b n k. tt)
       ws (3 ∷ []) p refl
-      (λ u. expect (ltb 0 (suc l)) 4 p >>> λ _. expect (row_ok vs v m u) 3 p >>> λ _.
-      formula (suc p) >>> λ r. fine (row_of u r.0, r.1))
+      (λ u. expect (ltb 0 (suc l)) 4 p >>> λ _. expect (rowOk vs v m u) 3 p >>> λ _.
+      formula (suc p) >>> λ r. fine (rowOf u r.0, r.1))
       (expected Q (λ n k. tt) (ltb 0 (suc l)) 4 p
-      (expect (row_ok vs v m w) 3 p >>> λ _. formula (suc p) >>> λ r. fine (row_of w r.0, r.1))
-      (expected Q (λ n k. tt) (row_ok vs v m w) 3 p (formula (suc p) >>> λ r. fine (row_of w r.0, r.1))
-      (row-agrees l i w g (λ q g''. rows_agree l (suc i) q g'') (formula (suc p)) j (agree (suc p)))))
+      (expect (rowOk vs v m w) 3 p >>> λ _. formula (suc p) >>> λ r. fine (rowOf w r.0, r.1))
+      (expected Q (λ n k. tt) (rowOk vs v m w) 3 p (formula (suc p) >>> λ r. fine (rowOf w r.0, r.1))
+      (row-agrees l i w g (λ q g''. rows-agree l (suc i) q g'') (formula (suc p)) j (agree (suc p)))))
 
   rows-means : (l p : ℕ) (rs : List (Row F)) (j : ℕ) → readRows ws vs formula v m l p ≡ fine (rs, j)
-      → rows_at ws f x l 0 p Nothing ≡ gotOf rs (hits (rowHolds h rs) (length rs))
+      → rowsAt ws f x l 0 p Nothing ≡ gotOf rs (hits (rowHolds h rs) (length rs))
   rows-means l p rs j e =
-      subst (λ (o : Read (List (Row F))). RowsAgree h 0 Nothing o (rows_at ws f x l 0 p Nothing)) e (rows_agree l 0 p Nothing)
+      subst (λ (o : Read (List (Row F))). RowsAgree h 0 Nothing o (rowsAt ws f x l 0 p Nothing)) e (rows-agree l 0 p Nothing)
       ∙ fold-all h rs
 
 pub condition-rows-means : (ws : List ℕ) (vs : List Variable) (b : List ℕ) (v m p : ℕ) (rs : List (Row Condition)) (j : ℕ)

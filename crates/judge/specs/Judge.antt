@@ -3,9 +3,9 @@ use Rattle.std.specs.Prelude.{ℕ, zero, suc, Bool, true, false, not, ◌&&◌, 
 use Rattle.word.specs.Fields as W
 use Rattle.word.specs.Limits as Max
 use Rattle.meaning.specs.Answers.{if◌then◌else◌}
-use Rattle.meaning.specs.Searches.{Hits, no_hit, one_hit, two-hits}
+use Rattle.meaning.specs.Searches.{Hits, no-hit, one-hit, two-hits}
 use Rattle.meaning.specs.Syntax.{Row}
-use Rattle.meaning.specs.Reading.{word, test_of}
+use Rattle.meaning.specs.Reading.{word, testOf}
 use Rattle.meaning.specs.Steps.{true-in, modeIs, rowValue}
 use Rattle.judge.specs.declared.Judged.{Judged}
 use Rattle.judge.specs.declared.Got.{Got}
@@ -19,7 +19,7 @@ joinedBy k x y = cond (eqb k 6) (x && y) (x || y)
 -- the condition whose first word w stands at i; `rec` judges an operand
 unfoldable pub judgeBy : List ℕ → (ℕ → Judged) → ℕ → ℕ → Judged
 judgeBy b rec w i =
-    if eqb (W.kind w) 4 then (λ _. record { value = true-in b (test_of w); next = suc i })
+    if eqb (W.kind w) 4 then (λ _. record { value = true-in b (testOf w); next = suc i })
     else λ _. if eqb (W.kind w) 9 then (λ _. record { value = eqb (W.truth w) 1; next = suc i })
     else λ _. if eqb (W.kind w) 5 then (λ _. record { value = not (rec (suc i)).value; next = (rec (suc i)).next })
     else λ _. record {
@@ -76,24 +76,24 @@ addRow (Two j l) true i k = Two j l
 
 -- At most so many rows from p on, the first of them row i, where the mode is x and f judges a row's formula. The next row is
 -- where the formula ends, if a row stands there.
-unfoldable pub rows_at : List ℕ → (ℕ → Judged) → ℕ → ℕ → ℕ → ℕ → Got → Got
-rows_at ws f x zero i p g = g
-rows_at ws f x (suc l) i p g =
+unfoldable pub rowsAt : List ℕ → (ℕ → Judged) → ℕ → ℕ → ℕ → ℕ → Got → Got
+rowsAt ws f x zero i p g = g
+rowsAt ws f x (suc l) i p g =
     if leb (length ws) p
     then (λ _. g)
     else λ _.
     let j = f (suc p) in
     let h = addRow g (modeIs (W.mode (word ws p)) x && j.value) i (W.value (word ws p)) in
-    if eqb (W.kind (word ws j.next)) 3 then (λ _. rows_at ws f x l (suc i) j.next h) else (λ _. h)
+    if eqb (W.kind (word ws j.next)) 3 then (λ _. rowsAt ws f x l (suc i) j.next h) else (λ _. h)
 
 unfoldable pub conditionRowsAt : List ℕ → List ℕ → ℕ → ℕ → ℕ → ℕ → Got → Got
-conditionRowsAt ws b x l i p g = rows_at ws (judgeAt ws b Max.max-depth) x l i p g
+conditionRowsAt ws b x l i p g = rowsAt ws (judgeAt ws b Max.max-depth) x l i p g
 
 unfoldable pub eventRowsAt : List ℕ → List ℕ → List ℕ → ℕ → ℕ → ℕ → ℕ → Got → Got
-eventRowsAt ws a b x l i p g = rows_at ws (judgeEventAt ws a b Max.max-depth) x l i p g
+eventRowsAt ws a b x l i p g = rowsAt ws (judgeEventAt ws a b Max.max-depth) x l i p g
 
 -- what the meaning's search among the rows rs finds
 unfoldable pub gotOf : {F : Type 0} → List (Row F) → Hits → Got
-gotOf rs no_hit = Nothing
-gotOf rs (one_hit i) = One i (rowValue rs i)
+gotOf rs no-hit = Nothing
+gotOf rs (one-hit i) = One i (rowValue rs i)
 gotOf rs (two-hits i j) = Two i j

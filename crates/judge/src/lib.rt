@@ -4,7 +4,7 @@
 ghost use Rattle.std.specs.Prelude.{◌≡◌, ◌&&◌, eqb};
 ghost use Rattle.word.specs.Fields as W;
 ghost use Rattle.word.specs.Limits as Max;
-ghost use Rattle.meaning.specs.Reading.{word, test_of};
+ghost use Rattle.meaning.specs.Reading.{word, testOf};
 ghost use Rattle.meaning.specs.Steps.{true-in, modeIs};
 ghost use Rattle.judge.specs.Judge.{joinedBy, judgeAt, changedBy, changeAt, judgeEventAt, addRow, conditionRowsAt, eventRowsAt};
 
@@ -32,7 +32,7 @@ pub enum Got {
 // ---- conditions
 // Is a test word true of the values?
 fn holds(w: u32, values: &[Value]) -> bool
-    ensures { result ≡ true-in values.now (test_of w) }
+    ensures { result ≡ true-in values.now (testOf w) }
 {
     let x = value_of(values, variable(w) as usize);
     let k = given(w);

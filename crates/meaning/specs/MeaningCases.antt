@@ -3,8 +3,8 @@
 use Rattle.std.specs.Prelude.{◌≡◌, refl, List, [], ◌∷◌, ℕ}
 use Rattle.meaning.specs.Answers.{ok, refuse}
 use Rattle.meaning.specs.Check.{checkOf}
-use Rattle.meaning.specs.Steps.{step_of}
-use Rattle.meaning.specs.Calls.{start_of}
+use Rattle.meaning.specs.Steps.{stepOf}
+use Rattle.meaning.specs.Calls.{startOf}
 use Rattle.meaning.specs.Opened.{meaning}
 use Rattle.meaning.specs.SetA.{setA}
 
@@ -34,51 +34,51 @@ passes ws a b c = checkOf ws ≡ ok (record { states = a; steps = b; assertions 
 pub record MeaningCases : Type 0 where
   -- ---- conditions
   -- at most 1: true of 0 and 1, broken by 2
-  pub at_most : checkOf (0x11003000 ∷ 0xA1000000 ∷ 0x40010001 ∷ []) ≡ refuse 14 (0 ∷ 0 ∷ 0 ∷ 2 ∷ [])
+  pub at-most : checkOf (0x11003000 ∷ 0xA1000000 ∷ 0x40010001 ∷ []) ≡ refuse 14 (0 ∷ 0 ∷ 0 ∷ 2 ∷ [])
   pub and-false : checkOf (0xA1000000 ∷ 0x60000000 ∷ 0x90000001 ∷ 0x90000000 ∷ []) ≡ refuse 13 (0 ∷ [])
   pub and-true : passes (0xA1000000 ∷ 0x60000000 ∷ 0x90000001 ∷ 0x90000001 ∷ []) 1 0 1
   pub or-true : passes (0xA1000000 ∷ 0x70000000 ∷ 0x90000000 ∷ 0x90000001 ∷ []) 1 0 1
   pub not-true : checkOf (0xA1000000 ∷ 0x50000000 ∷ 0x90000001 ∷ []) ≡ refuse 13 (0 ∷ [])
   -- ---- events
   -- one of two is enough; false never happens
-  pub or-event : step_of (moved (0x70000000 ∷ 0x81000000 ∷ 0x40000001 ∷ 0x90000001 ∷ 0x90000000 ∷ [])) 0 0xB0000001 ≡ ok 3
-  pub never-happens : step_of (moved (0x90000000 ∷ [])) 0 0xB0000001 ≡ ok 1
+  pub or-event : stepOf (moved (0x70000000 ∷ 0x81000000 ∷ 0x40000001 ∷ 0x90000001 ∷ 0x90000000 ∷ [])) 0 0xB0000001 ≡ ok 3
+  pub never-happens : stepOf (moved (0x90000000 ∷ [])) 0 0xB0000001 ≡ ok 1
   -- @F of a condition that was false before does not happen; its WHEN is judged before the step
-  pub already-false : step_of (movedByTwo (0x82000000 ∷ 0x40000001 ∷ 0x90000001 ∷ [])) 0 0xB0100001 ≡ ok 2
-  pub when-before : step_of (moved (0x82000000 ∷ 0x40000001 ∷ 0x40000001 ∷ [])) 1 0xB0000000 ≡ ok 2
+  pub already-false : stepOf (movedByTwo (0x82000000 ∷ 0x40000001 ∷ 0x90000001 ∷ [])) 0 0xB0100001 ≡ ok 2
+  pub when-before : stepOf (moved (0x82000000 ∷ 0x40000001 ∷ 0x40000001 ∷ [])) 1 0xB0000000 ≡ ok 2
   -- ---- rows
   -- mode 255 is every mode, also where there is no class
-  pub every-mode : step_of (movedAlways (0x81000000 ∷ 0x40000001 ∷ 0x90000001 ∷ [])) 0 0xB0000001 ≡ ok 3
+  pub every-mode : stepOf (movedAlways (0x81000000 ∷ 0x40000001 ∷ 0x90000001 ∷ [])) 0 0xB0000001 ≡ ok 3
   pub no-class : passes (0x13002000 ∷ 0x2300FF00 ∷ 0x3FF00000 ∷ 0x90000001 ∷ []) 1 0 0
   -- ---- event words
   -- a bit that it does not name, the lowest and the highest; a mode class
-  pub event-low-bit : step_of (0x11002000 ∷ []) 0 0xB0000101 ≡ refuse 16 (0 ∷ [])
-  pub event-high-bit : step_of (0x11002000 ∷ []) 0 0xB0080001 ≡ refuse 16 (0 ∷ [])
-  pub event-of-a-class : step_of setA 0 0xB0200001 ≡ refuse 16 (0 ∷ [])
+  pub event-low-bit : stepOf (0x11002000 ∷ []) 0 0xB0000101 ≡ refuse 16 (0 ∷ [])
+  pub event-high-bit : stepOf (0x11002000 ∷ []) 0 0xB0080001 ≡ refuse 16 (0 ∷ [])
+  pub event-of-a-class : stepOf setA 0 0xB0200001 ≡ refuse 16 (0 ∷ [])
   -- ---- what is read
   -- a term may test itself in WHEN
-  pub when-not-read : start_of (testsItself 0x81000000) ≡ ok 0
-  pub when-not-read-false : start_of (testsItself 0x82000000) ≡ ok 0
+  pub when-not-read : startOf (testsItself 0x81000000) ≡ ok 0
+  pub when-not-read-false : startOf (testsItself 0x82000000) ≡ ok 0
   -- a table of type 2 does not read its class: here the mode class reads the term
   pub class-of-events-not-read :
-      start_of (0x11002000 ∷ 0x12002000 ∷ 0x13002000 ∷ 0x21010100 ∷ 0x30000001 ∷ 0x81000000 ∷ 0x40200001 ∷ 0x90000001 ∷
+      startOf (0x11002000 ∷ 0x12002000 ∷ 0x13002000 ∷ 0x21010100 ∷ 0x30000001 ∷ 0x81000000 ∷ 0x40200001 ∷ 0x90000001 ∷
       (0x22020100 ∷ 0x30000001 ∷ 0x81000000 ∷ 0x40000001 ∷ 0x90000001 ∷ [])) ≡ ok 0
   -- one of type 3 does, whatever its rows' modes; and two variables that read each other are a cycle of two
   pub class-of-conditions-read :
-      start_of (0x12002000 ∷ 0x13002000 ∷ 0x21000000 ∷ 0x3FF00001 ∷ 0x81000000 ∷ 0x40100001 ∷ 0x90000001 ∷
+      startOf (0x12002000 ∷ 0x13002000 ∷ 0x21000000 ∷ 0x3FF00001 ∷ 0x81000000 ∷ 0x40100001 ∷ 0x90000001 ∷
       (0x23010000 ∷ 0x3FF00000 ∷ 0x90000001 ∷ [])) ≡ refuse 9 (0 ∷ 2 ∷ [])
   -- 0 reads 1, 1 reads 2 and 2 reads 0: 32 moves from 0 lead to 2
-  pub cycle-of-three : start_of (terms 0x40100000 0x40200000 0x40000000) ≡ refuse 9 (2 ∷ 3 ∷ [])
+  pub cycle-of-three : startOf (terms 0x40100000 0x40200000 0x40000000) ≡ refuse 9 (2 ∷ 3 ∷ [])
   -- ---- the order
   -- 0 reads 1, so 1 is taken first, then 0 before 2: the first gap is that of 0
   pub lowest-first : checkOf (terms 0x40100001 0x90000001 0x90000000) ≡ refuse 10 (0 ∷ 0 ∷ 0 ∷ [])
   -- "Tables may come in any order."
   pub tables-in-any-order :
-      start_of (0x13002000 ∷ 0x13002000 ∷ 0x2301FF00 ∷ 0x3FF00000 ∷ 0x90000001 ∷ 0x2300FF00 ∷ 0x3FF00000 ∷ 0x90000001 ∷ []) ≡ ok 0
+      startOf (0x13002000 ∷ 0x13002000 ∷ 0x2301FF00 ∷ 0x3FF00000 ∷ 0x90000001 ∷ 0x2300FF00 ∷ 0x3FF00000 ∷ 0x90000001 ∷ []) ≡ ok 0
   -- ---- states and counts
   -- a mode class starts at its initial value; the input before it weighs less
-  pub initial-mode : start_of (0x12003002 ∷ 0x21000000 ∷ 0x3FF00000 ∷ 0x90000000 ∷ []) ≡ ok 2
-  pub weights : start_of (0x11003001 ∷ 0x12003002 ∷ 0x21010100 ∷ 0x3FF00000 ∷ 0x90000000 ∷ []) ≡ ok 7
+  pub initial-mode : startOf (0x12003002 ∷ 0x21000000 ∷ 0x3FF00000 ∷ 0x90000000 ∷ []) ≡ ok 2
+  pub weights : startOf (0x11003001 ∷ 0x12003002 ∷ 0x21010100 ∷ 0x3FF00000 ∷ 0x90000000 ∷ []) ≡ ok 7
   -- two other values for each of three
   pub steps-counted : passes (0x11003000 ∷ []) 3 6 0
   -- the second of two assertions
@@ -88,7 +88,7 @@ pub record MeaningCases : Type 0 where
 pub meaning-cases : MeaningCases
 unfolding meaning
 meaning-cases = record {
-  at_most = refl;
+  at-most = refl;
   and-false = refl;
   and-true = refl;
   or-true = refl;

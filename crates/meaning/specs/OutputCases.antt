@@ -1,7 +1,7 @@
 -- The host's numbers and the program's output, by computation.
 use Rattle.std.specs.Prelude.{◌≡◌, refl, List, [], ◌∷◌, ◌++◌, ℕ}
 use Rattle.meaning.specs.Host.{hostCheckOf, hostStepOf}
-use Rattle.meaning.specs.Program.{program_of, decimal}
+use Rattle.meaning.specs.Program.{programOf, decimal}
 use Rattle.meaning.specs.Opened.{meaning}
 
 -- the bytes of words: an input of two values, one that starts at 1, a term, an assertion that input 0 is 1; events that set input 0
@@ -47,17 +47,17 @@ pub record OutputCases : Type 0 where
   pub host-three-bytes : hostCheckOf (0 ∷ 32 ∷ 0 ∷ []) ≡ 1
   pub host-step-broken : hostStepOf (input ++ (0 ∷ [])) 0 0xB0000001 ≡ 2147483649
   -- ---- the program: REFUSE 6 0; a broken last word is one more, REFUSE 2 1
-  pub refused : program_of term ≡ refuses (54 ∷ 32 ∷ 48 ∷ 10 ∷ [])
-  pub broken-word : program_of (input ++ (0 ∷ [])) ≡ refuses (50 ∷ 32 ∷ 49 ∷ 10 ∷ [])
+  pub refused : programOf term ≡ refuses (54 ∷ 32 ∷ 48 ∷ 10 ∷ [])
+  pub broken-word : programOf (input ++ (0 ∷ [])) ≡ refuses (50 ∷ 32 ∷ 49 ∷ 10 ∷ [])
   -- the lines done, then the refusal; every word after the first event is one, also the word of an input
-  pub lines-then-refusal : program_of (input ++ (to-1 ++ to-1)) ≡ pass ++ firstDone
-  pub other-kind-after : program_of (input ++ (to-1 ++ input)) ≡ pass ++ firstDone
+  pub lines-then-refusal : programOf (input ++ (to-1 ++ to-1)) ≡ pass ++ firstDone
+  pub other-kind-after : programOf (input ++ (to-1 ++ input)) ≡ pass ++ firstDone
   -- a set that check refuses is not run, REFUSE 13 0
-  pub not-run : program_of (input ++ (assertion ++ to-1)) ≡ refuses (49 ∷ 51 ∷ 32 ∷ 48 ∷ 10 ∷ [])
+  pub not-run : programOf (input ++ (assertion ++ to-1)) ≡ refuses (49 ∷ 51 ∷ 32 ∷ 48 ∷ 10 ∷ [])
   -- the run starts at the initial state: 0 0 0 0
-  pub from-the-initial-state : program_of (inputFromOne ++ to-0) ≡ pass ++ (48 ∷ 32 ∷ 48 ∷ 32 ∷ 48 ∷ 32 ∷ 48 ∷ 10 ∷ [])
+  pub from-the-initial-state : programOf (inputFromOne ++ to-0) ≡ pass ++ (48 ∷ 32 ∷ 48 ∷ 32 ∷ 48 ∷ 32 ∷ 48 ∷ 10 ∷ [])
   -- all digits of the highest number of 64 bits
-  pub all_digits :
+  pub all-digits :
       decimal 18446744073709551615
       ≡ 49 ∷ 56 ∷ 52 ∷ 52 ∷ 54 ∷ 55 ∷ 52 ∷ 52 ∷ 48 ∷ 55 ∷ 51 ∷ 55 ∷ 48 ∷ 57 ∷ 53 ∷ 53 ∷ 49 ∷ 54 ∷ 49 ∷ 53 ∷ []
 
@@ -78,5 +78,5 @@ output-cases = record {
   other-kind-after = refl;
   not-run = refl;
   from-the-initial-state = refl;
-  all_digits = refl;
+  all-digits = refl;
 }

@@ -3,8 +3,8 @@
 -- another order.
 use Rattle.std.specs.Prelude.{ℕ, zero, suc, ◌≡◌, refl, List, [], ◌∷◌, ◌++◌, replicate}
 use Rattle.meaning.specs.Answers.{ok, refuse}
-use Rattle.meaning.specs.Run.{run_of}
-use Rattle.meaning.specs.Calls.{start_of, rows_of}
+use Rattle.meaning.specs.Run.{runOf}
+use Rattle.meaning.specs.Calls.{startOf, rowsOf}
 use Rattle.meaning.specs.Opened.{meaning}
 
 -- n times the same words
@@ -37,77 +37,77 @@ assertion = 0xA1000000 ∷ 0x90000001 ∷ []
 pub record ReadingCases : Type 0 where
   -- ---- words wrong in two ways: 2, then 4, then 3, then 5
   -- a 33rd variable, of size 1
-  pub variable-too-many : start_of (times 32 input ++ (0x11001000 ∷ [])) ≡ refuse 4 (32 ∷ [])
+  pub variable-too-many : startOf (times 32 input ++ (0x11001000 ∷ [])) ≡ refuse 4 (32 ∷ [])
   -- a 65th row, of value 2
-  pub row-too-many : start_of (term ++ (times 64 row ++ (0x3FF00002 ∷ []))) ≡ refuse 4 (130 ∷ [])
+  pub row-too-many : startOf (term ++ (times 64 row ++ (0x3FF00002 ∷ []))) ≡ refuse 4 (130 ∷ [])
   -- level 17, and a bit that no constant has; the same without the bit; a test of no variable there
-  pub level-too-many-spare : start_of (0xA1000000 ∷ (replicate 16 0x50000000 ++ (0x90000002 ∷ []))) ≡ refuse 2 (17 ∷ [])
-  pub level-too-many : start_of (0xA1000000 ∷ (replicate 16 0x50000000 ++ (0x90000001 ∷ []))) ≡ refuse 4 (17 ∷ [])
-  pub level-too-many-range : start_of (0xA1000000 ∷ (replicate 16 0x50000000 ++ (0x40000000 ∷ []))) ≡ refuse 4 (17 ∷ [])
-  pub event-level-too-many-spare : start_of (event ++ (replicate 16 0x70000000 ++ (0x90000002 ∷ []))) ≡ refuse 2 (20 ∷ [])
+  pub level-too-many-spare : startOf (0xA1000000 ∷ (replicate 16 0x50000000 ++ (0x90000002 ∷ []))) ≡ refuse 2 (17 ∷ [])
+  pub level-too-many : startOf (0xA1000000 ∷ (replicate 16 0x50000000 ++ (0x90000001 ∷ []))) ≡ refuse 4 (17 ∷ [])
+  pub level-too-many-range : startOf (0xA1000000 ∷ (replicate 16 0x50000000 ++ (0x40000000 ∷ []))) ≡ refuse 4 (17 ∷ [])
+  pub event-level-too-many-spare : startOf (event ++ (replicate 16 0x70000000 ++ (0x90000002 ∷ []))) ≡ refuse 2 (20 ∷ [])
   -- a second table, of type 4; a table of an input that reads class 9
-  pub table-no-type : start_of (term ++ (row ++ (0x2400FF00 ∷ []))) ≡ refuse 3 (4 ∷ [])
-  pub table-no-class : start_of (input ++ (0x23000900 ∷ [])) ≡ refuse 3 (1 ∷ [])
+  pub table-no-type : startOf (term ++ (row ++ (0x2400FF00 ∷ []))) ≡ refuse 3 (4 ∷ [])
+  pub table-no-class : startOf (input ++ (0x23000900 ∷ [])) ≡ refuse 3 (1 ∷ [])
   -- a 33rd assertion, of type 5
-  pub assertion-too-many : start_of (times 32 assertion ++ (0xA5000000 ∷ [])) ≡ refuse 4 (64 ∷ [])
+  pub assertion-too-many : startOf (times 32 assertion ++ (0xA5000000 ∷ [])) ≡ refuse 4 (64 ∷ [])
   -- a bit that its kind doesn't have: a second table of type 4; the 65th row; the 33rd assertion, of type 5; a test of no variable; a change
   -- of sort 3
-  pub table-spare : start_of (term ++ (row ++ (0x2400FF01 ∷ []))) ≡ refuse 2 (4 ∷ [])
-  pub row-too-many-spare : start_of (term ++ (times 64 row ++ (0x3FF01002 ∷ []))) ≡ refuse 2 (130 ∷ [])
-  pub assertion-too-many-spare : start_of (times 32 assertion ++ (0xA5000001 ∷ [])) ≡ refuse 2 (64 ∷ [])
-  pub test_spare : start_of (0xA1000000 ∷ 0x40008000 ∷ []) ≡ refuse 2 (1 ∷ [])
-  pub change-spare : start_of (event ++ (0x83000001 ∷ [])) ≡ refuse 2 (4 ∷ [])
+  pub table-spare : startOf (term ++ (row ++ (0x2400FF01 ∷ []))) ≡ refuse 2 (4 ∷ [])
+  pub row-too-many-spare : startOf (term ++ (times 64 row ++ (0x3FF01002 ∷ []))) ≡ refuse 2 (130 ∷ [])
+  pub assertion-too-many-spare : startOf (times 32 assertion ++ (0xA5000001 ∷ [])) ≡ refuse 2 (64 ∷ [])
+  pub test-spare : startOf (0xA1000000 ∷ 0x40008000 ∷ []) ≡ refuse 2 (1 ∷ [])
+  pub change-spare : startOf (event ++ (0x83000001 ∷ [])) ≡ refuse 2 (4 ∷ [])
   -- a table without a row, at the end and before an assertion
-  pub no_row : start_of term ≡ refuse 2 (2 ∷ [])
-  pub no-row-before-assertion : start_of (term ++ assertion) ≡ refuse 2 (2 ∷ [])
+  pub no-row : startOf term ≡ refuse 2 (2 ∷ [])
+  pub no-row-before-assertion : startOf (term ++ assertion) ≡ refuse 2 (2 ∷ [])
   -- a row of value 2 and an early end: the row comes first
-  pub row-before-formula : start_of (term ++ (0x3FF00002 ∷ [])) ≡ refuse 3 (2 ∷ [])
+  pub row-before-formula : startOf (term ++ (0x3FF00002 ∷ [])) ≡ refuse 3 (2 ∷ [])
   -- ---- events
   -- true is no event; @T under 15 "or" is level 16, and what follows it level 17; under 14 "or" all is well
-  pub true-as-event : start_of (event ++ (0x90000001 ∷ [])) ≡ refuse 3 (4 ∷ [])
-  pub below-a-change : start_of (event ++ (replicate 15 0x70000000 ++ (0x81000000 ∷ 0x90000001 ∷ []))) ≡ refuse 4 (20 ∷ [])
+  pub true-as-event : startOf (event ++ (0x90000001 ∷ [])) ≡ refuse 3 (4 ∷ [])
+  pub below-a-change : startOf (event ++ (replicate 15 0x70000000 ++ (0x81000000 ∷ 0x90000001 ∷ []))) ≡ refuse 4 (20 ∷ [])
   pub change-deep-enough :
-      start_of (event ++ (replicate 14 0x70000000 ++ (0x81000000 ∷ 0x90000001 ∷ 0x90000001 ∷ replicate 14 0x90000000))) ≡ ok 0
+      startOf (event ++ (replicate 14 0x70000000 ++ (0x81000000 ∷ 0x90000001 ∷ 0x90000001 ∷ replicate 14 0x90000000))) ≡ ok 0
   -- ---- limits from both sides
   -- word 0 has no kind: with 4,096 of them the first is refused, with one more their number
-  pub words-most : start_of (replicate 4096 0) ≡ refuse 2 (0 ∷ [])
-  pub words-too-many : start_of (replicate 4097 0) ≡ refuse 1 (4097 ∷ [])
+  pub words-most : startOf (replicate 4096 0) ≡ refuse 2 (0 ∷ [])
+  pub words-too-many : startOf (replicate 4097 0) ≡ refuse 1 (4097 ∷ [])
   -- 32 inputs read: their states are too many, not they
-  pub variables-most : start_of (times 32 input) ≡ refuse 8 (16 ∷ [])
-  pub variables-too-many : start_of (times 33 input) ≡ refuse 4 (32 ∷ [])
-  pub rows-most : start_of (term ++ times 64 row) ≡ ok 0
-  pub rows-too-many : start_of (term ++ times 65 row) ≡ refuse 4 (130 ∷ [])
-  pub assertions-most : start_of (times 32 assertion) ≡ ok 0
-  pub assertions-too-many : start_of (times 33 assertion) ≡ refuse 4 (64 ∷ [])
+  pub variables-most : startOf (times 32 input) ≡ refuse 8 (16 ∷ [])
+  pub variables-too-many : startOf (times 33 input) ≡ refuse 4 (32 ∷ [])
+  pub rows-most : startOf (term ++ times 64 row) ≡ ok 0
+  pub rows-too-many : startOf (term ++ times 65 row) ≡ refuse 4 (130 ∷ [])
+  pub assertions-most : startOf (times 32 assertion) ≡ ok 0
+  pub assertions-too-many : startOf (times 33 assertion) ≡ refuse 4 (64 ∷ [])
   -- levels, in an assertion, in a row of conditions, in a row of events
-  pub levels-most : start_of (0xA1000000 ∷ (replicate 15 0x50000000 ++ (0x90000001 ∷ []))) ≡ ok 0
-  pub row-levels-most : start_of (term ++ (0x3FF00000 ∷ (replicate 15 0x50000000 ++ (0x90000001 ∷ [])))) ≡ ok 0
-  pub row-levels-too-many : start_of (term ++ (0x3FF00000 ∷ (replicate 16 0x50000000 ++ (0x90000001 ∷ [])))) ≡ refuse 4 (19 ∷ [])
-  pub event-levels-most : start_of (event ++ (replicate 15 0x70000000 ++ replicate 16 0x90000000)) ≡ ok 0
-  pub event-levels-too-many : start_of (event ++ (replicate 16 0x70000000 ++ (0x90000000 ∷ []))) ≡ refuse 4 (20 ∷ [])
-  pub states-most : start_of (times 16 input) ≡ ok 0
-  pub states-too-many : start_of (times 17 input) ≡ refuse 8 (16 ∷ [])
-  pub size-least : start_of (0x11002001 ∷ []) ≡ ok 1
-  pub size-too-small : start_of (0x11001000 ∷ []) ≡ refuse 3 (0 ∷ [])
-  pub size-most : start_of (0x111000FF ∷ []) ≡ ok 255
-  pub size-too-big : start_of (0x11101000 ∷ []) ≡ refuse 3 (0 ∷ [])
-  pub initial-too-big : start_of (0x11002002 ∷ []) ≡ refuse 3 (0 ∷ [])
-  pub modes-most : start_of (0x120FF000 ∷ 0x21000000 ∷ 0x3FE00000 ∷ 0x90000000 ∷ []) ≡ ok 0
-  pub modes-too-many : start_of (0x12100000 ∷ 0x21000000 ∷ 0x3FE00000 ∷ 0x90000000 ∷ []) ≡ refuse 3 (0 ∷ [])
-  pub mode-too-big : start_of (0x12003000 ∷ 0x21000000 ∷ 0x30300000 ∷ 0x90000000 ∷ []) ≡ refuse 3 (2 ∷ [])
-  pub every-mode : start_of (0x12003000 ∷ 0x21000000 ∷ 0x3FF00000 ∷ 0x90000000 ∷ []) ≡ ok 0
-  pub test-value-too-big : start_of (input ++ (0xA1000000 ∷ 0x40000002 ∷ [])) ≡ refuse 3 (2 ∷ [])
-  pub test-value-most : start_of (input ++ (0xA1000000 ∷ 0x40000001 ∷ [])) ≡ ok 0
-  pub row-value-too-big : start_of (term ++ (0x3FF00002 ∷ 0x90000001 ∷ [])) ≡ refuse 3 (2 ∷ [])
+  pub levels-most : startOf (0xA1000000 ∷ (replicate 15 0x50000000 ++ (0x90000001 ∷ []))) ≡ ok 0
+  pub row-levels-most : startOf (term ++ (0x3FF00000 ∷ (replicate 15 0x50000000 ++ (0x90000001 ∷ [])))) ≡ ok 0
+  pub row-levels-too-many : startOf (term ++ (0x3FF00000 ∷ (replicate 16 0x50000000 ++ (0x90000001 ∷ [])))) ≡ refuse 4 (19 ∷ [])
+  pub event-levels-most : startOf (event ++ (replicate 15 0x70000000 ++ replicate 16 0x90000000)) ≡ ok 0
+  pub event-levels-too-many : startOf (event ++ (replicate 16 0x70000000 ++ (0x90000000 ∷ []))) ≡ refuse 4 (20 ∷ [])
+  pub states-most : startOf (times 16 input) ≡ ok 0
+  pub states-too-many : startOf (times 17 input) ≡ refuse 8 (16 ∷ [])
+  pub size-least : startOf (0x11002001 ∷ []) ≡ ok 1
+  pub size-too-small : startOf (0x11001000 ∷ []) ≡ refuse 3 (0 ∷ [])
+  pub size-most : startOf (0x111000FF ∷ []) ≡ ok 255
+  pub size-too-big : startOf (0x11101000 ∷ []) ≡ refuse 3 (0 ∷ [])
+  pub initial-too-big : startOf (0x11002002 ∷ []) ≡ refuse 3 (0 ∷ [])
+  pub modes-most : startOf (0x120FF000 ∷ 0x21000000 ∷ 0x3FE00000 ∷ 0x90000000 ∷ []) ≡ ok 0
+  pub modes-too-many : startOf (0x12100000 ∷ 0x21000000 ∷ 0x3FE00000 ∷ 0x90000000 ∷ []) ≡ refuse 3 (0 ∷ [])
+  pub mode-too-big : startOf (0x12003000 ∷ 0x21000000 ∷ 0x30300000 ∷ 0x90000000 ∷ []) ≡ refuse 3 (2 ∷ [])
+  pub every-mode : startOf (0x12003000 ∷ 0x21000000 ∷ 0x3FF00000 ∷ 0x90000000 ∷ []) ≡ ok 0
+  pub test-value-too-big : startOf (input ++ (0xA1000000 ∷ 0x40000002 ∷ [])) ≡ refuse 3 (2 ∷ [])
+  pub test-value-most : startOf (input ++ (0xA1000000 ∷ 0x40000001 ∷ [])) ≡ ok 0
+  pub row-value-too-big : startOf (term ++ (0x3FF00002 ∷ 0x90000001 ∷ [])) ≡ refuse 3 (2 ∷ [])
   -- word 0 is no event either: of 4,096 the first is refused
-  pub events-most : (run_of input 0 (replicate 4096 0) (replicate 4096 9) 0).answer ≡ refuse 16 (0 ∷ [])
-  pub events-too-many : (run_of input 0 (replicate 4097 0) (replicate 4097 9) 0).answer ≡ refuse 17 (4097 ∷ [])
+  pub events-most : (runOf input 0 (replicate 4096 0) (replicate 4096 9) 0).answer ≡ refuse 16 (0 ∷ [])
+  pub events-too-many : (runOf input 0 (replicate 4097 0) (replicate 4097 9) 0).answer ≡ refuse 17 (4097 ∷ [])
   -- ---- the words of a table: before the end, before an assertion, before another table
-  pub rows-to-the-end : rows_of (0x11002000 ∷ 0x14002000 ∷ eventTable) 1 ≡ eventTable
-  pub rows-to-an-assertion : rows_of (0x11002000 ∷ 0x14002000 ∷ (eventTable ++ assertion)) 1 ≡ eventTable
-  pub rows-to-a-table : rows_of (0x11002000 ∷ 0x14002000 ∷ 0x13002000 ∷ (eventTable ++ (0x2302FF00 ∷ row))) 1 ≡ eventTable
-  pub rows-of-the-second : rows_of (0x11002000 ∷ 0x14002000 ∷ 0x13002000 ∷ (eventTable ++ (0x2302FF00 ∷ row))) 2 ≡ 0x2302FF00 ∷ row
-  pub rows-of-an-input : rows_of (0x11002000 ∷ 0x14002000 ∷ eventTable) 0 ≡ []
+  pub rows-to-the-end : rowsOf (0x11002000 ∷ 0x14002000 ∷ eventTable) 1 ≡ eventTable
+  pub rows-to-an-assertion : rowsOf (0x11002000 ∷ 0x14002000 ∷ (eventTable ++ assertion)) 1 ≡ eventTable
+  pub rows-to-a-table : rowsOf (0x11002000 ∷ 0x14002000 ∷ 0x13002000 ∷ (eventTable ++ (0x2302FF00 ∷ row))) 1 ≡ eventTable
+  pub rows-of-the-second : rowsOf (0x11002000 ∷ 0x14002000 ∷ 0x13002000 ∷ (eventTable ++ (0x2302FF00 ∷ row))) 2 ≡ 0x2302FF00 ∷ row
+  pub rows-of-an-input : rowsOf (0x11002000 ∷ 0x14002000 ∷ eventTable) 0 ≡ []
 
 pub reading-cases : ReadingCases
 unfolding meaning
@@ -124,9 +124,9 @@ reading-cases = record {
   table-spare = refl;
   row-too-many-spare = refl;
   assertion-too-many-spare = refl;
-  test_spare = refl;
+  test-spare = refl;
   change-spare = refl;
-  no_row = refl;
+  no-row = refl;
   no-row-before-assertion = refl;
   row-before-formula = refl;
   true-as-event = refl;

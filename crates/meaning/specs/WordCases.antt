@@ -3,14 +3,14 @@
 use Rattle.std.specs.Prelude.{ℕ, zero, suc, ◌+◌, ◌*◌, ◌^◌, ◌≡◌, refl, Bool, true, false, List, [], ◌∷◌, ◌++◌}
 use Rattle.word.specs.Fields as W
 use Rattle.meaning.specs.Answers.{Outcome, ok, refuse}
-use Rattle.meaning.specs.Searches.{list_of}
-use Rattle.meaning.specs.Calls.{start_of}
+use Rattle.meaning.specs.Searches.{listOf}
+use Rattle.meaning.specs.Calls.{startOf}
 use Rattle.meaning.specs.Opened.{meaning}
 
 -- what start says of the words with one more behind them, for the kinds from k on: its other bits are zero
 abbrev followed : List ℕ → ℕ → ℕ → List (Outcome ℕ)
 followed ws k zero = []
-followed ws k (suc n) = start_of (ws ++ (k * 2 ^ 28 ∷ [])) ∷ followed ws (suc k) n
+followed ws k (suc n) = startOf (ws ++ (k * 2 ^ 28 ∷ [])) ∷ followed ws (suc k) n
 
 abbrev kinds : List ℕ → List (Outcome ℕ)
 kinds ws = followed ws 0 16
@@ -36,7 +36,7 @@ spare k (suc n) = addBit (W.spare-clear (k * 2 ^ 28 + 2 ^ n)) n (spare k n)
 
 -- n bits from `low` on
 abbrev bits : ℕ → ℕ → List ℕ
-bits low n = list_of (λ i. low + i) n
+bits low n = listOf (λ i. low + i) n
 
 pub record WordCases : Type 0 where
   -- ---- kinds, from 0 to 15
@@ -49,7 +49,7 @@ pub record WordCases : Type 0 where
       ≡ kind 1 ∷ field 1 ∷ field 1 ∷ kind 1 ∷ kind 1 ∷ kind 1 ∷ kind 1 ∷ kind 1 ∷ kind 1 ∷ kind 1 ∷ field 1 ∷ kind 1 ∷ kind 1 ∷ kind 1 ∷ kind 1
       ∷ kind 1 ∷ []
   -- after a table word: a row, whose mode 0 is none here
-  pub after_table : kinds (0x13002000 ∷ 0x2300FF00 ∷ [])
+  pub after-table : kinds (0x13002000 ∷ 0x2300FF00 ∷ [])
       ≡ kind 2 ∷ kind 2 ∷ kind 2 ∷ field 2 ∷ kind 2 ∷ kind 2 ∷ kind 2 ∷ kind 2 ∷ kind 2 ∷ kind 2 ∷ kind 2 ∷ kind 2 ∷ kind 2 ∷ kind 2 ∷ kind 2
       ∷ kind 2 ∷ []
   -- a condition: a test, "not", "and", "or" or a constant; those three are followed by an early end
@@ -81,48 +81,48 @@ pub record WordCases : Type 0 where
   pub assertion-bits : spare 10 28 ≡ bits 0 24
   pub event-bits : spare 11 28 ≡ bits 8 12
   -- ---- fields out of range. A variable's class; a mode class, a term and a controlled variable then lack a table
-  pub class-0 : start_of (0x10002000 ∷ []) ≡ field 0
-  pub class-2 : start_of (0x12002000 ∷ []) ≡ refuse 6 (0 ∷ [])
-  pub class-4 : start_of (0x14002000 ∷ []) ≡ refuse 6 (0 ∷ [])
-  pub class-5 : start_of (0x15002000 ∷ []) ≡ field 0
-  pub class-9 : start_of (0x19002000 ∷ []) ≡ field 0
+  pub class-0 : startOf (0x10002000 ∷ []) ≡ field 0
+  pub class-2 : startOf (0x12002000 ∷ []) ≡ refuse 6 (0 ∷ [])
+  pub class-4 : startOf (0x14002000 ∷ []) ≡ refuse 6 (0 ∷ [])
+  pub class-5 : startOf (0x15002000 ∷ []) ≡ field 0
+  pub class-9 : startOf (0x19002000 ∷ []) ≡ field 0
   -- all bits of a field count: the highest of a size, of an initial value, of the variable of a table and of a test, of a change
-  pub size-high : start_of (0x11802000 ∷ []) ≡ field 0
-  pub initial-high : start_of (0x11100800 ∷ []) ≡ field 0
-  pub defined-high : start_of (0x13002000 ∷ 0x2380FF00 ∷ []) ≡ field 1
-  pub test-high : start_of (0x11002000 ∷ 0xA1000000 ∷ 0x48000000 ∷ []) ≡ field 2
-  pub change-high : start_of (0x11002000 ∷ 0x14002000 ∷ 0x2201FF00 ∷ 0x3FF00000 ∷ 0x89000000 ∷ []) ≡ field 4
+  pub size-high : startOf (0x11802000 ∷ []) ≡ field 0
+  pub initial-high : startOf (0x11100800 ∷ []) ≡ field 0
+  pub defined-high : startOf (0x13002000 ∷ 0x2380FF00 ∷ []) ≡ field 1
+  pub test-high : startOf (0x11002000 ∷ 0xA1000000 ∷ 0x48000000 ∷ []) ≡ field 2
+  pub change-high : startOf (0x11002000 ∷ 0x14002000 ∷ 0x2201FF00 ∷ 0x3FF00000 ∷ 0x89000000 ∷ []) ≡ field 4
   -- a term of 256 values, and a row that gives the last of them
-  pub term-256 : start_of (0x13100000 ∷ 0x2300FF00 ∷ 0x3FF000FF ∷ 0x90000001 ∷ []) ≡ ok 0
+  pub term-256 : startOf (0x13100000 ∷ 0x2300FF00 ∷ 0x3FF000FF ∷ 0x90000001 ∷ []) ≡ ok 0
   -- a table's type, the variable defined, the class read
-  pub type-0 : start_of (0x13002000 ∷ 0x2000FF00 ∷ []) ≡ field 1
-  pub type-4 : start_of (0x13002000 ∷ 0x2400FF00 ∷ []) ≡ field 1
-  pub no-such-variable : start_of (0x13002000 ∷ 0x2301FF00 ∷ []) ≡ field 1
-  pub no-such-class : start_of (0x13002000 ∷ 0x23000100 ∷ []) ≡ field 1
-  pub class-254 : start_of (0x13002000 ∷ 0x2300FE00 ∷ []) ≡ field 1
+  pub type-0 : startOf (0x13002000 ∷ 0x2000FF00 ∷ []) ≡ field 1
+  pub type-4 : startOf (0x13002000 ∷ 0x2400FF00 ∷ []) ≡ field 1
+  pub no-such-variable : startOf (0x13002000 ∷ 0x2301FF00 ∷ []) ≡ field 1
+  pub no-such-class : startOf (0x13002000 ∷ 0x23000100 ∷ []) ≡ field 1
+  pub class-254 : startOf (0x13002000 ∷ 0x2300FE00 ∷ []) ≡ field 1
   -- a row's mode in a table without a class; a change; an assertion's type; a test's variable and relation
-  pub mode-without-class : start_of (0x13002000 ∷ 0x2300FF00 ∷ 0x3FE00000 ∷ []) ≡ field 2
-  pub change-3 : start_of (0x11002000 ∷ 0x14002000 ∷ 0x2201FF00 ∷ 0x3FF00000 ∷ 0x83000000 ∷ []) ≡ field 4
-  pub assertion-2 : start_of (0xA2000000 ∷ []) ≡ field 0
-  pub test-of-no-variable : start_of (0x11002000 ∷ 0xA1000000 ∷ 0x40100000 ∷ []) ≡ field 2
-  pub test-2 : start_of (0x11002000 ∷ 0xA1000000 ∷ 0x40020000 ∷ []) ≡ field 2
+  pub mode-without-class : startOf (0x13002000 ∷ 0x2300FF00 ∷ 0x3FE00000 ∷ []) ≡ field 2
+  pub change-3 : startOf (0x11002000 ∷ 0x14002000 ∷ 0x2201FF00 ∷ 0x3FF00000 ∷ 0x83000000 ∷ []) ≡ field 4
+  pub assertion-2 : startOf (0xA2000000 ∷ []) ≡ field 0
+  pub test-of-no-variable : startOf (0x11002000 ∷ 0xA1000000 ∷ 0x40100000 ∷ []) ≡ field 2
+  pub test-2 : startOf (0x11002000 ∷ 0xA1000000 ∷ 0x40020000 ∷ []) ≡ field 2
   -- ---- tables that don't fit: of an input; a second one; of a mode class by events or conditions; of a term by modes
-  pub of-an-input : start_of (0x11002000 ∷ 0x2200FF00 ∷ []) ≡ table 1
-  pub second : start_of (0x13002000 ∷ 0x2300FF00 ∷ 0x3FF00000 ∷ 0x90000001 ∷ 0x2300FF00 ∷ []) ≡ table 4
-  pub class-by-events : start_of (0x12002000 ∷ 0x22000000 ∷ []) ≡ table 1
-  pub class-by-conditions : start_of (0x12002000 ∷ 0x23000000 ∷ []) ≡ table 1
-  pub term-by-modes : start_of (0x13002000 ∷ 0x21000000 ∷ []) ≡ table 1
+  pub of-an-input : startOf (0x11002000 ∷ 0x2200FF00 ∷ []) ≡ table 1
+  pub second : startOf (0x13002000 ∷ 0x2300FF00 ∷ 0x3FF00000 ∷ 0x90000001 ∷ 0x2300FF00 ∷ []) ≡ table 4
+  pub class-by-events : startOf (0x12002000 ∷ 0x22000000 ∷ []) ≡ table 1
+  pub class-by-conditions : startOf (0x12002000 ∷ 0x23000000 ∷ []) ≡ table 1
+  pub term-by-modes : startOf (0x13002000 ∷ 0x21000000 ∷ []) ≡ table 1
   -- a mode class that reads none or another; a term that reads an input
-  pub class-reads-none : start_of (0x12002000 ∷ 0x2100FF00 ∷ []) ≡ table 1
-  pub class-reads-another : start_of (0x12002000 ∷ 0x12002000 ∷ 0x21000100 ∷ []) ≡ table 2
-  pub reads-an-input : start_of (0x11002000 ∷ 0x13002000 ∷ 0x23010000 ∷ []) ≡ table 2
+  pub class-reads-none : startOf (0x12002000 ∷ 0x2100FF00 ∷ []) ≡ table 1
+  pub class-reads-another : startOf (0x12002000 ∷ 0x12002000 ∷ 0x21000100 ∷ []) ≡ table 2
+  pub reads-an-input : startOf (0x11002000 ∷ 0x13002000 ∷ 0x23010000 ∷ []) ≡ table 2
 
 pub word-cases : WordCases
 unfolding meaning
 word-cases = record {
   first = refl;
   after-variable = refl;
-  after_table = refl;
+  after-table = refl;
   condition = refl;
   event = refl;
   after-row = refl;

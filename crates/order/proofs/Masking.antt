@@ -13,20 +13,20 @@ use Rattle.word.specs.Fields as W
 use Rattle.word.specs.Limits as Max
 use Rattle.meaning.specs.Answers.{fine, stop, ◌>>>◌, expect, if◌then◌else◌}
 use Rattle.meaning.specs.Searches.{mem, within}
-use Rattle.meaning.specs.Syntax.{Condition, constant, negation, Event, never, one_of, Variable, Row, TableSet}
+use Rattle.meaning.specs.Syntax.{Condition, constant, negation, Event, never, one-of, Variable, Row, TableSet}
 use Rattle.meaning.specs.Lookup.{Source}
-use Rattle.meaning.specs.Reading.{Read, word, fits, testOk, test_by, test_of, row_ok, conditionKinds, eventKinds, joined, changed, conditionBy, eventBy, rows_by, row_of, body_of, word_at, readCondition, readEvent, readRow, readRows}
+use Rattle.meaning.specs.Reading.{Read, word, fits, testOk, testBy, testOf, rowOk, conditionKinds, eventKinds, joined, changed, conditionBy, eventBy, rowsBy, rowOf, bodyOf, wordAt, readCondition, readEvent, readRow, readRows}
 use Rattle.meaning.specs.Order.{tests, changes, anyRow, readsBy, reads}
 use Rattle.index.specs.Indexed.{Indexed}
-use Rattle.index.specs.Sources.{SourceAt, no_table, event-at, condition-at, source-at}
+use Rattle.index.specs.Sources.{SourceAt, no-table, event-at, condition-at, source-at}
 use Rattle.theory.specs.Tests.{true-not-false}
 use Rattle.order.specs.declared.Masked.{Masked}
 use Rattle.index.specs.Bits.{bitIn, oneBit}
 use Rattle.index.proofs.Laws.{past-unfit}
-use Rattle.index.proofs.BitLaws.{zero-at, or_at, bit-of}
+use Rattle.index.proofs.BitLaws.{zero-at, or-at, bit-of}
 use Rattle.order.specs.Masks.{nothingAt, bothFrom, firstFrom, conditionMaskBy, conditionMask, eventMaskBy, eventMask, formulaMask, rowsMask, tableMask}
 use Rattle.order.proofs.Scans.{rows-here}
-use Rattle.order.proofs.Bits.{eqb_swap}
+use Rattle.order.proofs.Bits.{eqb-swap}
 
 -- the same place after it, and a bit for each variable b that `sees` finds in it
 abbrev Agrees : {A : Type 0} → (ℕ → A → Bool) → Read A → Masked → Type 0
@@ -34,13 +34,13 @@ Agrees sees (fine p) j = (j.next ≡ p.1) × ((b : ℕ) → b < Max.max-variable
 Agrees sees (stop k i) j = Unit {0}
 
 -- one reading after another; of their masks m and n the whole has g m n
-then_agrees : {A B C : Type 0} (seesA : ℕ → A → Bool) (seesB : ℕ → B → Bool) (seesC : ℕ → C → Bool) (f : A → B → C) (g : ℕ → ℕ → ℕ)
+then-agrees : {A B C : Type 0} (seesA : ℕ → A → Bool) (seesB : ℕ → B → Bool) (seesC : ℕ → C → Bool) (f : A → B → C) (g : ℕ → ℕ → ℕ)
     → ((x : A) (y : B) (m n b : ℕ) → seesA b x ≡ bitIn m b → seesB b y ≡ bitIn n b → seesC b (f x y) ≡ bitIn (g m n) b)
     → (rp : ℕ → Read B) (rj : ℕ → Masked) → ((i : ℕ) → Agrees seesB (rp i) (rj i)) → (m : Read A) (j : Masked) → Agrees seesA m j
     → Agrees seesC (m >>> λ r. rp r.1 >>> λ q. fine (f r.0 q.0, q.1))
     (record { mask = g j.mask (rj j.next).mask; next = (rj j.next).next })
-then_agrees seesA seesB seesC f g h rp rj ih (stop k i) j e = tt
-then_agrees seesA seesB seesC f g h rp rj ih (fine p) j e = rw e.0 (go (rp p.1) (ih p.1))
+then-agrees seesA seesB seesC f g h rp rj ih (stop k i) j e = tt
+then-agrees seesA seesB seesC f g h rp rj ih (fine p) j e = rw e.0 (go (rp p.1) (ih p.1))
   where
     go : (o : Read _) → Agrees seesB o (rj p.1)
         → Agrees seesC (o >>> λ q. fine (f p.0 q.0, q.1))
@@ -49,7 +49,7 @@ then_agrees seesA seesB seesC f g h rp rj ih (fine p) j e = rw e.0 (go (rp p.1) 
     go (fine q) a = (a.0, λ b l. h p.0 q.0 j.mask (rj p.1).mask b (e.1 b l) (a.1 b l))
 
 or-bits : (x y : Bool) (m n b : ℕ) → x ≡ bitIn m b → y ≡ bitIn n b → x || y ≡ bitIn (bit_or m n) b
-or-bits x y m n b ex ey = rw (or_at m n b, ex, ey)
+or-bits x y m n b ex ey = rw (or-at m n b, ex, ey)
 
 -- ---- conditions
 joined-tests : (s : Bool) (c d : Condition) (b : ℕ) → tests b (joined s c d) ≡ tests b c || tests b d
@@ -57,11 +57,11 @@ unfolding tests joined
 joined-tests true c d b = refl
 joined-tests false c d b = refl
 
-test-tests : (w b : ℕ) → tests b (test_of w) ≡ eqb b (W.variable w)
-unfolding test_of test_by tests
-test-tests w b = go (eqb (W.relation w) 0) ∙ eqb_swap (W.variable w) b
+test-tests : (w b : ℕ) → tests b (testOf w) ≡ eqb b (W.variable w)
+unfolding testOf testBy tests
+test-tests w b = go (eqb (W.relation w) 0) ∙ eqb-swap (W.variable w) b
   where
-    go : (t : Bool) → tests b (test_by t (W.variable w) (W.value w)) ≡ eqb (W.variable w) b
+    go : (t : Bool) → tests b (testBy t (W.variable w) (W.value w)) ≡ eqb (W.variable w) b
     go true = refl
     go false = refl
 
@@ -70,7 +70,7 @@ module _ (vs : List Variable) (rp : ℕ → Read Condition) (rj : ℕ → Masked
   unfolding conditionBy conditionMaskBy tests
   condition-by w i = go (eqb (W.kind w) 4) (eqb (W.kind w) 9) (eqb (W.kind w) 5)
     where
-      test : (t : Bool) → Agrees tests (expect t 3 i >>> λ _. fine (test_of w, suc i)) (record { mask = oneBit (W.variable w); next = suc i })
+      test : (t : Bool) → Agrees tests (expect t 3 i >>> λ _. fine (testOf w, suc i)) (record { mask = oneBit (W.variable w); next = suc i })
       test true = (refl, λ b l. test-tests w b ∙ sym (bit-of (W.variable w) b l))
       test false = tt
 
@@ -80,7 +80,7 @@ module _ (vs : List Variable) (rp : ℕ → Read Condition) (rj : ℕ → Masked
 
       go : (x y z : Bool)
           → Agrees tests
-          (if x then (λ _. expect (testOk vs w) 3 i >>> λ _. fine (test_of w, suc i))
+          (if x then (λ _. expect (testOk vs w) 3 i >>> λ _. fine (testOf w, suc i))
           else λ _. if y then (λ _. fine (constant (eqb (W.truth w) 1), suc i))
           else λ _. if z then (λ _. rp (suc i) >>> λ r. fine (negation r.0, r.1))
           else λ _. (rp (suc i) >>> λ r. rp r.1 >>> λ q. fine (joined (eqb (W.kind w) 6) r.0 q.0, q.1)))
@@ -92,7 +92,7 @@ module _ (vs : List Variable) (rp : ℕ → Read Condition) (rj : ℕ → Masked
       go false true z = (refl, λ b l. sym (zero-at b))
       go false false true = negated (rp (suc i)) (rj (suc i)) (ih (suc i))
       go false false false =
-          then_agrees tests tests tests (joined (eqb (W.kind w) 6)) bit_or
+          then-agrees tests tests tests (joined (eqb (W.kind w) 6)) bit_or
           (λ c d m n b ec ed. joined-tests (eqb (W.kind w) 6) c d b ∙ or-bits (tests b c) (tests b d) m n b ec ed)
           rp rj ih (rp (suc i)) (rj (suc i)) (ih (suc i))
 
@@ -116,14 +116,14 @@ module _ (rp : ℕ → Read Event) (rj : ℕ → Masked) (ih : (i : ℕ) → Agr
           (expect t 3 i >>> λ _. cp (suc i) >>> λ r. cp r.1 >>> λ q. fine (changed (eqb (W.sort w) 1) r.0 q.0, q.1))
           (firstFrom cj (suc i))
       change true =
-          then_agrees tests tests changes (changed (eqb (W.sort w) 1)) (λ m n. m)
+          then-agrees tests tests changes (changed (eqb (W.sort w) 1)) (λ m n. m)
           (λ c d m n b ec ed. changed-changes (eqb (W.sort w) 1) c d b ∙ ec) cp cj ic (cp (suc i)) (cj (suc i)) (ic (suc i))
       change false = tt
 
       go : (x y : Bool)
           → Agrees changes
           (if x then (λ _. expect (eqb (W.truth w) 0) 3 i >>> λ _. fine (never, suc i))
-          else λ _. if y then (λ _. rp (suc i) >>> λ r. rp r.1 >>> λ q. fine (one_of r.0 q.0, q.1))
+          else λ _. if y then (λ _. rp (suc i) >>> λ r. rp r.1 >>> λ q. fine (one-of r.0 q.0, q.1))
           else λ _. (expect (within 1 2 (W.sort w)) 3 i >>> λ _. cp (suc i) >>> λ r. cp r.1 >>> λ q.
           fine (changed (eqb (W.sort w) 1) r.0 q.0, q.1)))
           (if x then (λ _. nothingAt (suc i))
@@ -131,14 +131,14 @@ module _ (rp : ℕ → Read Event) (rj : ℕ → Masked) (ih : (i : ℕ) → Agr
           else λ _. firstFrom cj (suc i))
       go true y = none (eqb (W.truth w) 0)
       go false true =
-          then_agrees changes changes changes one_of bit_or (λ e f m n b ee ef. or-bits (changes b e) (changes b f) m n b ee ef)
+          then-agrees changes changes changes one-of bit_or (λ e f m n b ee ef. or-bits (changes b e) (changes b f) m n b ee ef)
           rp rj ih (rp (suc i)) (rj (suc i)) (ih (suc i))
       go false false = change (within 1 2 (W.sort w))
 
 -- ---- levels: a word that fits is there
 level : {A : Type 0} (sees : ℕ → A → Bool) (ws kinds : List ℕ) (i : ℕ) → mem 0 kinds ≡ false → (f : ℕ → Read A) (j : Masked)
-    → Agrees sees (f (word ws i)) j → Agrees sees (word_at ws kinds i >>> f) (if leb (length ws) i then (λ _. nothingAt i) else (λ _. j))
-unfolding word_at
+    → Agrees sees (f (word ws i)) j → Agrees sees (wordAt ws kinds i >>> f) (if leb (length ws) i then (λ _. nothingAt i) else (λ _. j))
+unfolding wordAt
 level sees ws kinds i k f j a = go (leb (length ws) i) refl (fits kinds (word ws i)) refl
   where
     go : (l : Bool) → leb (length ws) i ≡ l → (t : Bool) → fits kinds (word ws i) ≡ t
@@ -147,8 +147,8 @@ level sees ws kinds i k f j a = go (leb (length ws) i) refl (fits kinds (word ws
     go true el true et = absurd (true-not-false et (past-unfit ws kinds i k el))
     go false el true et = a
 
-no-level : {A : Type 0} (sees : ℕ → A → Bool) (ws kinds : List ℕ) (i : ℕ) (j : Masked) → Agrees sees (word_at ws kinds i >>> λ w. stop 4 i) j
-unfolding word_at
+no-level : {A : Type 0} (sees : ℕ → A → Bool) (ws kinds : List ℕ) (i : ℕ) (j : Masked) → Agrees sees (wordAt ws kinds i >>> λ w. stop 4 i) j
+unfolding wordAt
 no-level sees ws kinds i j = go (fits kinds (word ws i))
   where
     go : (t : Bool) → Agrees sees ((expect t 2 i >>> λ _. fine (word ws i)) >>> λ w. stop 4 i) j
@@ -181,11 +181,11 @@ module _ {F : Type 0} (sees : ℕ → F → Bool) (ws : List ℕ) (vs : List Var
   seesRow b r = sees b r.formula
 
   row-agrees : (left p : ℕ) → Agrees seesRow (readRow ws vs formula v c left p) (formulaMask ws t (suc p))
-  unfolding readRow word_at row_of
+  unfolding readRow wordAt rowOf
   row-agrees left p = go (fits (3 ∷ []) (word ws p))
     where
       inside : (y z : Bool) (w : ℕ) (o : Read F) → Agrees sees o (formulaMask ws t (suc p))
-          → Agrees seesRow (expect y 4 p >>> λ _. expect z 3 p >>> λ _. o >>> λ r. fine (row_of w r.0, r.1)) (formulaMask ws t (suc p))
+          → Agrees seesRow (expect y 4 p >>> λ _. expect z 3 p >>> λ _. o >>> λ r. fine (rowOf w r.0, r.1)) (formulaMask ws t (suc p))
       inside false z w o a = tt
       inside true false w o a = tt
       inside true true w (fine r) a = a
@@ -194,46 +194,46 @@ module _ {F : Type 0} (sees : ℕ → F → Bool) (ws : List ℕ) (vs : List Var
       go : (x : Bool)
           → Agrees seesRow
           ((expect x 2 p >>> λ _. fine (word ws p)) >>> λ w.
-          expect (ltb 0 left) 4 p >>> λ _. expect (row_ok vs v c w) 3 p >>> λ _. formula (suc p) >>> λ r. fine (row_of w r.0, r.1))
+          expect (ltb 0 left) 4 p >>> λ _. expect (rowOk vs v c w) 3 p >>> λ _. formula (suc p) >>> λ r. fine (rowOf w r.0, r.1))
           (formulaMask ws t (suc p))
       go false = tt
-      go true = inside (ltb 0 left) (row_ok vs v c (word ws p)) (word ws p) (formula (suc p)) (scanned (suc p))
+      go true = inside (ltb 0 left) (rowOk vs v c (word ws p)) (word ws p) (formula (suc p)) (scanned (suc p))
 
   row-past : (left p : ℕ) → leb (length ws) p ≡ true → readRow ws vs formula v c left p ≡ stop 2 p
-  unfolding readRow word_at mem
+  unfolding readRow wordAt mem
   row-past left p e = rw (past-unfit ws (3 ∷ []) p refl e)
 
   row-over : (p : ℕ) (r : Row F × ℕ) → readRow ws vs formula v c 0 p ≡ fine r → ⊥
-  unfolding readRow word_at
+  unfolding readRow wordAt
   row-over p r e = go (fits (3 ∷ []) (word ws p)) e
     where
       go : (x : Bool) → ◌≡◌ {A = Read (Row F)} ((expect x 2 p >>> λ _. fine (word ws p)) >>> λ w. stop 4 p) (fine r) → ⊥
       go true e = let z : ◌≡◌ {A = ℕ} 0 1 = cc in omega arith
       go false e = let z : ◌≡◌ {A = ℕ} 0 1 = cc in omega arith
 
-  rows_agree : (left p first : ℕ) → RowsAgree sees first (readRows ws vs formula v c left p) (rowsMask ws t left p first)
-  unfolding readRows rows_by anyRow
-  rows_agree zero p first = go (readRow ws vs formula v c 0 p) refl
+  rows-agree : (left p first : ℕ) → RowsAgree sees first (readRows ws vs formula v c left p) (rowsMask ws t left p first)
+  unfolding readRows rowsBy anyRow
+  rows-agree zero p first = go (readRow ws vs formula v c 0 p) refl
     where
       go : (o : Read (Row F)) → readRow ws vs formula v c 0 p ≡ o
           → RowsAgree sees first (o >>> λ r. fine (r.0 ∷ [], r.1)) (rowsMask ws t 0 p first)
       go (stop k x) e = tt
       go (fine r) e = absurd (row-over p r e)
-  rows_agree (suc left) p first = start (leb (length ws) p) refl (λ q a. rows_agree left q a)
+  rows-agree (suc left) p first = start (leb (length ws) p) refl (λ q a. rows-agree left q a)
     where
       more : (k : Bool) (r : Row F × ℕ) (n : ℕ) → ((b : ℕ) → b < Max.max-variables → seesRow b r.0 ≡ bitIn n b) → (o : Read (List (Row F)))
           → RowsAgree sees (bit_or first n) o (rowsMask ws t left r.1 (bit_or first n))
           → RowsAgree sees first
           (if k then (λ _. o >>> λ q. fine (r.0 ∷ q.0, q.1)) else (λ _. fine (r.0 ∷ [], r.1)))
           (if k then (λ _. rowsMask ws t left r.1 (bit_or first n)) else (λ _. bit_or first n))
-      more false r n h o a = λ b l. rw (or-false (seesRow b r.0), h b l) (sym (or_at first n b))
+      more false r n h o a = λ b l. rw (or-false (seesRow b r.0), h b l) (sym (or-at first n b))
       more true r n h (stop k x) a = tt
       more true r n h (fine s) a = λ b l.
-          rw (← or_assoc (bitIn first b) (seesRow b r.0) (anyRow (sees b) s.0), h b l, ← or_at first n b) (a b l)
+          rw (← or_assoc (bitIn first b) (seesRow b r.0) (anyRow (sees b) s.0), h b l, ← or-at first n b) (a b l)
 
       go : (o : Read (Row F)) → Agrees seesRow o (formulaMask ws t (suc p)) → leb (length ws) p ≡ false
           → ((q a : ℕ) → RowsAgree sees a (readRows ws vs formula v c left q) (rowsMask ws t left q a))
-          → RowsAgree sees first (o >>> λ r. rows_by (W.kind (word ws r.1)) (readRows ws vs formula v c left) r) (rowsMask ws t (suc left) p first)
+          → RowsAgree sees first (o >>> λ r. rowsBy (W.kind (word ws r.1)) (readRows ws vs formula v c left) r) (rowsMask ws t (suc left) p first)
       go (stop k x) a e ih = tt
       go (fine r) a e ih =
           rw (rows-here ws t left p first e, a.0)
@@ -242,7 +242,7 @@ module _ {F : Type 0} (sees : ℕ → F → Bool) (ws : List ℕ) (vs : List Var
 
       start : (k : Bool) → leb (length ws) p ≡ k
           → ((q a : ℕ) → RowsAgree sees a (readRows ws vs formula v c left q) (rowsMask ws t left q a))
-          → RowsAgree sees first (readRow ws vs formula v c (suc left) p >>> λ r. rows_by (W.kind (word ws r.1)) (readRows ws vs formula v c left) r)
+          → RowsAgree sees first (readRow ws vs formula v c (suc left) p >>> λ r. rowsBy (W.kind (word ws r.1)) (readRows ws vs formula v c left) r)
           (rowsMask ws t (suc left) p first)
       start true e ih = rw (row-past (suc left) p e) tt
       start false e ih = go (readRow ws vs formula v c (suc left) p) (row-agrees (suc left) p) e ih
@@ -251,13 +251,13 @@ module _ {F : Type 0} (sees : ℕ → F → Bool) (ws : List ℕ) (vs : List Var
   rows-read : (left p first : ℕ) (rs : List (Row F)) (j : ℕ) → readRows ws vs formula v c left p ≡ fine (rs, j) → (b : ℕ) → b < Max.max-variables
       → (x : Bool) → x ≡ bitIn first b → x || anyRow (sees b) rs ≡ bitIn (rowsMask ws t left p first) b
   rows-read left p first rs j e b h x ex =
-      rw ex (subst (λ (o : Read (List (Row F))). RowsAgree sees first o (rowsMask ws t left p first)) e (rows_agree left p first) b h)
+      rw ex (subst (λ (o : Read (List (Row F))). RowsAgree sees first o (rowsMask ws t left p first)) e (rows-agree left p first) b h)
 
 -- ---- the source of a variable, by the place of its first row
 source-means : {ws : List ℕ} {vs : List Variable} {p : ℕ} {s : Source} → SourceAt ws vs p s → (b : ℕ) → b < Max.max-variables
     → readsBy s b ≡ bitIn (tableMask ws p) b
-unfolding readsBy tableMask body_of formulaMask
-source-means no_table b h = sym (zero-at b)
+unfolding readsBy tableMask bodyOf formulaMask
+source-means no-table b h = sym (zero-at b)
 source-means {ws} {vs} (event-at i j rs n e) b h =
     rw (ne_eqb (W.sort (word ws i)) 3 n)
     (rows-read changes ws vs (readEvent ws vs Max.max-depth) (W.sort (word ws i)) (W.defined (word ws i)) (W.class-read (word ws i))
@@ -269,7 +269,7 @@ source-means {ws} {vs} (condition-at i j rs t e) b h =
     rw t
     (rows-read tests ws vs (readCondition ws vs Max.max-depth) 3 (W.defined (word ws i)) (W.class-read (word ws i)) scanned Max.max-rows
     (suc i) (oneBit (W.class-read (word ws i))) rs j e b h (eqb (W.class-read (word ws i)) b)
-    (eqb_swap (W.class-read (word ws i)) b ∙ sym (bit-of (W.class-read (word ws i)) b h)))
+    (eqb-swap (W.class-read (word ws i)) b ∙ sym (bit-of (W.class-read (word ws i)) b h)))
   where
     scanned : (k : ℕ) → Agrees tests (readCondition ws vs Max.max-depth k) (formulaMask ws 3 k)
     scanned k = condition-agrees ws vs Max.max-depth k

@@ -10,7 +10,7 @@ use lib.Dec.{eqb}
 use lib.ListN.{length, get_or, length-append}
 use Rattle.word.specs.Limits as Max
 use Rattle.meaning.specs.Answers.{ok}
-use Rattle.meaning.specs.Searches.{least, or_else, all-below, mem, iterate}
+use Rattle.meaning.specs.Searches.{least, orElse, all-below, mem, iterate}
 use Rattle.meaning.specs.Syntax.{TableSet}
 use Rattle.meaning.specs.Lookup.{count}
 use Rattle.meaning.specs.Order.{reads, ready, taking, takeMore, order, stuck, move, shown, movesBack, cycleFrom, noCycle}
@@ -21,16 +21,16 @@ use Rattle.theory.specs.Found.{LeastView, absent, found, least-view}
 use Rattle.theory.specs.Numbers.{getD-listOf}
 use Rattle.theory.specs.Orders.{all-ordered}
 use Rattle.index.specs.Bits.{bitIn}
-use Rattle.order.specs.Masks.{tableMask, masks_at}
-use Rattle.order.specs.Orders.{mask_of, covered, untakenBy, leastStuck, stuckRead, readyBy, leastReady, takeBy, order_by, takenBy, moveBy, shownBy, homeBy, back_by, cycleOf, cycleBy, order_at, noCycleAt}
+use Rattle.order.specs.Masks.{tableMask, masksAt}
+use Rattle.order.specs.Orders.{maskOf, covered, untakenBy, leastStuck, stuckRead, readyBy, leastReady, takeBy, orderBy, takenBy, moveBy, shownBy, homeBy, backBy, cycleOf, cycleBy, orderAt, noCycleAt}
 use Rattle.order.proofs.Bits.{mem-bit}
 use Rattle.order.proofs.Masking.{reads-mean}
 
 -- ---- searches and walks go by what their tests and moves give below n
-all_same : (f g : ℕ → Bool) (n : ℕ) → ((k : ℕ) → k < n → f k ≡ g k) → all-below f n ≡ all-below g n
+all-same : (f g : ℕ → Bool) (n : ℕ) → ((k : ℕ) → k < n → f k ≡ g k) → all-below f n ≡ all-below g n
 unfolding all-below
-all_same f g zero h = refl
-all_same f g (suc n) h = rw (all_same f g n (λ k l. h k (omega arith)), h n (omega arith))
+all-same f g zero h = refl
+all-same f g (suc n) h = rw (all-same f g n (λ k l. h k (omega arith)), h n (omega arith))
 
 least-same : (f g : ℕ → Bool) (n : ℕ) → ((k : ℕ) → k < n → f k ≡ g k) → least f n ≡ least g n
 unfolding least
@@ -48,59 +48,59 @@ module _ (f g : ℕ → ℕ) (n : ℕ) (same : (u : ℕ) → u < n → f u ≡ g
   walk-below zero v h = h
   walk-below (suc k) v h = below (iterate f k v) (walk-below k v h)
 
-  walk_same : (k v : ℕ) → v < n → iterate f k v ≡ iterate g k v
+  walk-same : (k v : ℕ) → v < n → iterate f k v ≡ iterate g k v
   unfolding iterate
-  walk_same zero v h = refl
-  walk_same (suc k) v h = same (iterate f k v) (walk-below k v h) ∙ ap g (walk_same k v h)
+  walk-same zero v h = refl
+  walk-same (suc k) v h = same (iterate f k v) (walk-below k v h) ∙ ap g (walk-same k v h)
 
 -- ---- the masks say what each variable reads
 module _ (z : TableSet) (ms : List ℕ) (few : count z ≤ Max.max-variables)
     (masked : (v b : ℕ) → v < count z → b < count z → reads z v b ≡ bitIn (get_or ms v 0) b) where
-  ready-same : (taken : List ℕ) (v : ℕ) → v < count z → ready z taken v ≡ readyBy ms (count z) (mask_of taken 0) v
+  ready-same : (taken : List ℕ) (v : ℕ) → v < count z → ready z taken v ≡ readyBy ms (count z) (maskOf taken 0) v
   unfolding ready readyBy untakenBy covered
   ready-same taken v h =
       rw (
         mem-bit taken v (omega arith),
-        all_same (λ b. not (reads z v b) || mem b taken) (λ b. not (bitIn (get_or ms v 0) b) || bitIn (mask_of taken 0) b) (count z)
+        all-same (λ b. not (reads z v b) || mem b taken) (λ b. not (bitIn (get_or ms v 0) b) || bitIn (maskOf taken 0) b) (count z)
             (λ b l. rw (masked v b h l, mem-bit taken b (omega arith))),
       )
 
-  take_same : (k : ℕ) (taken : List ℕ) → takeMore z k taken ≡ takeBy ms (count z) k taken
+  take-same : (k : ℕ) (taken : List ℕ) → takeMore z k taken ≡ takeBy ms (count z) k taken
   unfolding takeMore takeBy leastReady
-  take_same zero taken = refl
-  take_same (suc k) taken =
-      rw (least-same (ready z taken) (readyBy ms (count z) (mask_of taken 0)) (count z) (ready-same taken))
-      (taking-same (least (readyBy ms (count z) (mask_of taken 0)) (count z)) taken (takeMore z k) (takeBy ms (count z) k) (take_same k))
+  take-same zero taken = refl
+  take-same (suc k) taken =
+      rw (least-same (ready z taken) (readyBy ms (count z) (maskOf taken 0)) (count z) (ready-same taken))
+      (taking-same (least (readyBy ms (count z) (maskOf taken 0)) (count z)) taken (takeMore z k) (takeBy ms (count z) k) (take-same k))
 
-  order_same : order z ≡ order_by ms (count z)
-  unfolding order order_by
-  order_same = take_same (count z) []
+  order-same : order z ≡ orderBy ms (count z)
+  unfolding order orderBy
+  order-same = take-same (count z) []
 
   abbrev ever : ℕ
   ever = takenBy ms (count z)
 
   stuck-same : (v : ℕ) → v < count z → stuck z v ≡ untakenBy ever v
   unfolding stuck untakenBy takenBy
-  stuck-same v h = rw (mem-bit (order z) v (omega arith), order_same)
+  stuck-same v h = rw (mem-bit (order z) v (omega arith), order-same)
 
-  move_same : (v : ℕ) → v < count z → move z v ≡ moveBy ms (count z) ever v
+  move-same : (v : ℕ) → v < count z → move z v ≡ moveBy ms (count z) ever v
   unfolding move moveBy stuckRead
-  move_same v h =
+  move-same v h =
       rw (least-same (λ b. stuck z b && reads z v b) (stuckRead (get_or ms v 0) ever) (count z) (λ b l. rw (stuck-same b l, masked v b h l)))
 
   move-below : (v : ℕ) → v < count z → move z v < count z
-  unfolding move or_else
+  unfolding move orElse
   move-below v h = go (least-view (λ b. stuck z b && reads z v b) (count z))
     where
-      go : {o : Option ℕ} → LeastView (λ b. stuck z b && reads z v b) (count z) o → or_else o v < count z
+      go : {o : Option ℕ} → LeastView (λ b. stuck z b && reads z v b) (count z) o → orElse o v < count z
       go (absent f) = h
       go (found k l e f) = l
 
   walk : (k v : ℕ) → v < count z → iterate (move z) k v ≡ iterate (moveBy ms (count z) ever) k v
-  walk = walk_same (move z) (moveBy ms (count z) ever) (count z) move_same move-below
+  walk = walk-same (move z) (moveBy ms (count z) ever) (count z) move-same move-below
 
-  back-same : (w : ℕ) → w < count z → movesBack z w ≡ back_by ms (count z) ever w
-  unfolding movesBack back_by homeBy
+  back-same : (w : ℕ) → w < count z → movesBack z w ≡ backBy ms (count z) ever w
+  unfolding movesBack backBy homeBy
   back-same w h =
       rw (least-same (λ k. eqb (iterate (move z) (suc k) w) w) (homeBy ms (count z) ever w) (count z) (λ k l. rw (walk (suc k) w h)))
 
@@ -111,7 +111,7 @@ module _ (z : TableSet) (ms : List ℕ) (few : count z ≤ Max.max-variables)
       go : {o : Option ℕ} → LeastView (stuck z) (count z) o → cycleFrom z o ≡ cycleOf ms (count z) ever o
       go (absent f) = refl
       go (found v l e f) =
-          let h = walk-below (move z) (moveBy ms (count z) ever) (count z) move_same move-below Max.cycle-moves v l in
+          let h = walk-below (move z) (moveBy ms (count z) ever) (count z) move-same move-below Max.cycle-moves v l in
           rw (back-same (iterate (move z) Max.cycle-moves v) h, walk Max.cycle-moves v l)
 
 -- ---- the index
@@ -122,18 +122,18 @@ module _ {ws : List ℕ} {z : TableSet} {n a : ℕ} {ps : List ℕ} (ix : Indexe
   few : count z ≤ Max.max-variables
   few = rw counted ix.few
 
-  masked : (v b : ℕ) → v < count z → b < count z → reads z v b ≡ bitIn (get_or (masks_at ws ps) v 0) b
-  unfolding masks_at
+  masked : (v b : ℕ) → v < count z → b < count z → reads z v b ≡ bitIn (get_or (masksAt ws ps) v 0) b
+  unfolding masksAt
   masked v b h l =
       let f = few in
       rw (getD-listOf (λ u. tableMask ws (get_or ps u 0)) Max.max-variables 0 v (omega arith)) (reads-mean ix v b (rw (← counted) h) (omega arith))
 
 pub order-means : {ws : List ℕ} {z : TableSet} {n a : ℕ} {ps : List ℕ} → Indexed ws z n a ps
-    → (order_at ws ps n ≡ order z) × (noCycleAt ws ps n ≡ noCycle z)
-unfolding order_at noCycleAt
+    → (orderAt ws ps n ≡ order z) × (noCycleAt ws ps n ≡ noCycle z)
+unfolding orderAt noCycleAt
 order-means {ws} {z} {ps} ix =
     rw (← counted ix)
-    (sym (order_same z (masks_at ws ps) (few ix) (masked ix)), sym (cycle-same z (masks_at ws ps) (few ix) (masked ix)))
+    (sym (order-same z (masksAt ws ps) (few ix) (masked ix)), sym (cycle-same z (masksAt ws ps) (few ix) (masked ix)))
 
 -- ---- how many the order has
 taken-few : (z : TableSet) (k : ℕ) (taken : List ℕ) → length (takeMore z k taken) ≤ k + length taken
@@ -154,17 +154,17 @@ others n v front rest l m = go (mem-append v front (n ∷ rest) m)
     go (inr q) =
         elim (mem-cons v n rest q) [ inl e ↦ absurd (let x : ⊥ = omega arith in x) | inr r ↦ mem-right v front rest r ]
 
-all_listed : (n : ℕ) (xs : List ℕ) → ((v : ℕ) → v < n → mem v xs ≡ true) → n ≤ length xs
-all_listed zero xs h = omega arith
-all_listed (suc n) xs h =
+all-listed : (n : ℕ) (xs : List ℕ) → ((v : ℕ) → v < n → mem v xs ≡ true) → n ≤ length xs
+all-listed zero xs h = omega arith
+all-listed (suc n) xs h =
     let s = mem-split n xs (h n (omega arith)) in
-    let ih = all_listed n (s.0 ++ s.1) (λ v l. others n v s.0 s.1 l (subst (λ (o : List ℕ). mem v o ≡ true) s.2 (h v (omega arith)))) in
+    let ih = all-listed n (s.0 ++ s.1) (λ v l. others n v s.0 s.1 l (subst (λ (o : List ℕ). mem v o ≡ true) s.2 (h v (omega arith)))) in
     omega (arith, ih, length-append s.0 s.1, length-append s.0 (n ∷ s.1), ap length s.2)
 
 order-count : (z : TableSet) → noCycle z ≡ ok tt → length (order z) ≡ count z
 unfolding order
-order-count z e = omega (arith, taken-few z (count z) [], all_listed (count z) (order z) (all-ordered z e))
+order-count z e = omega (arith, taken-few z (count z) [], all-listed (count z) (order z) (all-ordered z e))
 
-pub order_below : {ws : List ℕ} {z : TableSet} {n a : ℕ} {ps : List ℕ} → Indexed ws z n a ps → noCycle z ≡ ok tt
-    → length (order_at ws ps n) ≡ n
-order_below {z} ix e = ap length (order-means ix).0 ∙ order-count z e ∙ counted ix
+pub order-below : {ws : List ℕ} {z : TableSet} {n a : ℕ} {ps : List ℕ} → Indexed ws z n a ps → noCycle z ≡ ok tt
+    → length (orderAt ws ps n) ≡ n
+order-below {z} ix e = ap length (order-means ix).0 ∙ order-count z e ∙ counted ix

@@ -13,12 +13,12 @@ use borrow.Author.Tests.{ne_eqb, eq-eqb, le-leb, lt-leb}
 use Rattle.word.specs.Fields as W
 use Rattle.word.specs.Limits as Max
 use Rattle.meaning.specs.Answers.{if◌then◌else◌}
-use Rattle.meaning.specs.Searches.{list_of}
+use Rattle.meaning.specs.Searches.{listOf}
 use Rattle.meaning.specs.Reading.{word}
 use Rattle.theory.specs.Loops.{left}
 use Rattle.index.specs.Bits.{oneBit}
 use Rattle.order.specs.declared.Masked.{Masked}
-use Rattle.order.specs.Masks.{nothingAt, conditionMaskBy, conditionMask, eventMaskBy, eventMask, formulaMask, rowsMask, tableMask, masks_at}
+use Rattle.order.specs.Masks.{nothingAt, conditionMaskBy, conditionMask, eventMaskBy, eventMask, formulaMask, rowsMask, tableMask, masksAt}
 
 -- ---- conditions
 pub condition-none : (ws : List ℕ) (n at : ℕ) → n ≡ 0 → record { mask = 0; next = at } ≡ conditionMask ws n at
@@ -117,10 +117,10 @@ rows-zero : (ws : List ℕ) (t p m : ℕ) → rowsMask ws t 0 p m ≡ m
 unfolding rowsMask
 rows-zero ws t p m = refl
 
-rows_end : (ws : List ℕ) (t l p m : ℕ) → leb (length ws) p ≡ true → rowsMask ws t l p m ≡ m
+rows-end : (ws : List ℕ) (t l p m : ℕ) → leb (length ws) p ≡ true → rowsMask ws t l p m ≡ m
 unfolding rowsMask
-rows_end ws t zero p m e = refl
-rows_end ws t (suc l) p m e = rw e
+rows-end ws t zero p m e = refl
+rows-end ws t (suc l) p m e = rw e
 
 -- the rows after one with the mask and end of j
 abbrev pub rowsAfter : List ℕ → ℕ → ℕ → ℕ → Masked → ℕ
@@ -136,10 +136,10 @@ rows-here ws t l p m e = rw e
 
 module _ (ws : List ℕ) (t i on m at first : ℕ) (inv : rowsMask ws t (Max.max-rows - i) on m ≡ rowsMask ws t Max.max-rows at first) where
   pub rows-past : length ws ≤ on → m ≡ rowsMask ws t Max.max-rows at first
-  rows-past h = sym (rows_end ws t (Max.max-rows - i) on m (le-leb (length ws) on h)) ∙ inv
+  rows-past h = sym (rows-end ws t (Max.max-rows - i) on m (le-leb (length ws) on h)) ∙ inv
 
-  pub rows_all : Max.max-rows ≤ i → m ≡ rowsMask ws t Max.max-rows at first
-  rows_all h = let z : Max.max-rows - i ≡ 0 = omega arith in sym (rows-zero ws t on m) ∙ (rw z at inv)
+  pub rows-all : Max.max-rows ≤ i → m ≡ rowsMask ws t Max.max-rows at first
+  rows-all h = let z : Max.max-rows - i ≡ 0 = omega arith in sym (rows-zero ws t on m) ∙ (rw z at inv)
 
   module _ (w k : ℕ) (j : Masked) (h : i < Max.max-rows) (hl : on < length ws) (ej : j ≡ formulaMask ws t (on + 1)) (ew : w ≡ word ws j.next) (ek : k ≡ W.kind w) where
     turn : (if eqb k 3 then (λ _. rowsMask ws t (Max.max-rows - (i + 1)) j.next (bit_or m j.mask)) else (λ _. bit_or m j.mask))
@@ -148,16 +148,16 @@ module _ (ws : List ℕ) (t i on m at first : ℕ) (inv : rowsMask ws t (Max.max
         rw (ek, ew, ej, add-one on)
         (sym (rows-here ws t (Max.max-rows - (i + 1)) on m (lt-leb (length ws) on hl)) ∙ (rw (left Max.max-rows i h) at inv))
 
-    pub rows_last : (k ≡ 3 → ⊥) → bit_or m j.mask ≡ rowsMask ws t Max.max-rows at first
-    rows_last n = rw (ne_eqb k 3 n) at turn
+    pub rows-last : (k ≡ 3 → ⊥) → bit_or m j.mask ≡ rowsMask ws t Max.max-rows at first
+    rows-last n = rw (ne_eqb k 3 n) at turn
 
-    pub rows_on : k ≡ 3 → rowsMask ws t (Max.max-rows - (i + 1)) j.next (bit_or m j.mask) ≡ rowsMask ws t Max.max-rows at first
-    rows_on e = rw (eq-eqb k 3 e) at turn
+    pub rows-on : k ≡ 3 → rowsMask ws t (Max.max-rows - (i + 1)) j.next (bit_or m j.mask) ≡ rowsMask ws t Max.max-rows at first
+    rows-on e = rw (eq-eqb k 3 e) at turn
 
 -- ---- a table
-pub table_none : (ws ps : List ℕ) (v p : ℕ) → p ≡ get_or ps v 0 → p ≡ 0 → 0 ≡ tableMask ws (get_or ps v 0)
+pub table-none : (ws ps : List ℕ) (v p : ℕ) → p ≡ get_or ps v 0 → p ≡ 0 → 0 ≡ tableMask ws (get_or ps v 0)
 unfolding tableMask
-table_none ws ps v p ep e = rw (← ep, e)
+table-none ws ps v p ep e = rw (← ep, e)
 
 table-by : (ws : List ℕ) (p : ℕ) → (p ≡ 0 → ⊥)
     → rowsMask ws (W.sort (word ws (p - 1))) Max.max-rows p
@@ -176,22 +176,22 @@ module _ (ws ps : List ℕ) (v p w t r : ℕ) (ep : p ≡ get_or ps v 0) (np : p
 
 -- ---- the masks of all variables: those filled in so far are the first of them
 abbrev pub masksTo : List ℕ → List ℕ → ℕ → List ℕ
-masksTo ws ps n = list_of (λ v. tableMask ws (get_or ps v 0)) n
+masksTo ws ps n = listOf (λ v. tableMask ws (get_or ps v 0)) n
 
 pub masks-none : (ws ps ms : List ℕ) → take 0 ms ≡ masksTo ws ps 0
-unfolding list_of
+unfolding listOf
 masks-none ws ps [] = refl
 masks-none ws ps (m ∷ ms) = refl
 
 pub masks-on : (ws ps ms : List ℕ) (v m : ℕ) → length ms ≡ Max.max-variables → v < Max.max-variables → take v ms ≡ masksTo ws ps v
     → m ≡ tableMask ws (get_or ps v 0) → take (v + 1) (set ms v m) ≡ masksTo ws ps (v + 1)
-unfolding list_of
+unfolding listOf
 masks-on ws ps ms v m l h i em =
     let b : v < length ms = omega arith in
     rw (add-one v, take-suc-set ms v m b, i, em)
 
-pub masks-all : (ws ps ms : List ℕ) (v : ℕ) → length ms ≡ Max.max-variables → v ≤ Max.max-variables → Max.max-variables ≤ v → take v ms ≡ masksTo ws ps v → ms ≡ masks_at ws ps
-unfolding masks_at
+pub masks-all : (ws ps ms : List ℕ) (v : ℕ) → length ms ≡ Max.max-variables → v ≤ Max.max-variables → Max.max-variables ≤ v → take v ms ≡ masksTo ws ps v → ms ≡ masksAt ws ps
+unfolding masksAt
 masks-all ws ps ms v l h k i =
     let e : v ≡ Max.max-variables = omega arith in
     let b : length ms ≤ Max.max-variables = omega arith in

@@ -14,22 +14,22 @@ use lib.ListN.{length, get_or, set, take, length-take}
 use lib.Seq.{take-suc-set}
 use borrow.Author.Tests.{not-true, not-false, eq-eqb, ne_eqb}
 use Rattle.word.specs.Limits as Max
-use Rattle.meaning.specs.Searches.{least, or_else, all-below, iterate}
+use Rattle.meaning.specs.Searches.{least, orElse, all-below, iterate}
 use Rattle.meaning.specs.Order.{taking}
-use Rattle.theory.specs.Found.{least-here, least_on, least-end}
+use Rattle.theory.specs.Found.{least-here, least-on, least-end}
 use Rattle.theory.specs.Loops.{left}
 use Rattle.order.specs.declared.Found.{Found}
 use Rattle.order.specs.declared.Found.TheVariants.{At, Nothing}
 use Rattle.order.specs.declared.Order.{Order}
 use Rattle.order.specs.declared.Order.TheVariants.{All, Cycle}
 use Rattle.index.specs.Bits.{bitIn, oneBit}
-use Rattle.order.specs.Masks.{masks_at}
-use Rattle.order.specs.Orders.{foundOf, cycleSaid, mask_of, covered, untakenBy, leastStuck, stuckRead, readyBy, leastReady, takeBy, order_by, takenBy, moveBy, shownBy, homeBy, back_by, cycleOf, cycleBy, order_at, noCycleAt}
+use Rattle.order.specs.Masks.{masksAt}
+use Rattle.order.specs.Orders.{foundOf, cycleSaid, maskOf, covered, untakenBy, leastStuck, stuckRead, readyBy, leastReady, takeBy, orderBy, takenBy, moveBy, shownBy, homeBy, backBy, cycleOf, cycleBy, orderAt, noCycleAt}
 
 -- ---- all-below and least, counted up
-both_false : (x y : Bool) → y ≡ false → x && y ≡ false
-both_false true y e = e
-both_false false y e = refl
+both-false : (x y : Bool) → y ≡ false → x && y ≡ false
+both-false true y e = e
+both-false false y e = refl
 
 all-fails : (f : ℕ → Bool) (n b : ℕ) → b < n → f b ≡ false → all-below f n ≡ false
 unfolding all-below
@@ -38,35 +38,35 @@ all-fails f (suc n) b h e = go (λ l. all-fails f n b l e) (dec_le (suc b) n)
   where
     go : (b < n → all-below f n ≡ false) → Dec (b < n) → all-below f n && f n ≡ false
     go ih (yes l) = rw (ih l)
-    go ih (no l) = let q : b ≡ n = omega arith in both_false (all-below f n) (f n) (rw q at e)
+    go ih (no l) = let q : b ≡ n = omega arith in both-false (all-below f n) (f n) (rw q at e)
 
 all-on : (f : ℕ → Bool) (b : ℕ) → all-below f b ≡ true → f b ≡ true → all-below f (b + 1) ≡ true
 unfolding all-below
 all-on f b e t = rw (add-one b, all-below, e, t)
 
-pub least_start : (f : ℕ → Bool) → least f 0 ≡ none
+pub least-start : (f : ℕ → Bool) → least f 0 ≡ none
 unfolding least
-least_start f = refl
+least-start f = refl
 
 -- ---- what is found
-found_none : (o : Option ℕ) → foundOf o ≡ Nothing → o ≡ none
+found-none : (o : Option ℕ) → foundOf o ≡ Nothing → o ≡ none
 unfolding foundOf
-found_none none e = refl
-found_none (some v) e = absurd (let z : ◌≡◌ {A = ℕ} 0 1 = cc in omega arith)
+found-none none e = refl
+found-none (some v) e = absurd (let z : ◌≡◌ {A = ℕ} 0 1 = cc in omega arith)
 
-found_some : (o : Option ℕ) (v : ℕ) → foundOf o ≡ At v → o ≡ some v
+found-some : (o : Option ℕ) (v : ℕ) → foundOf o ≡ At v → o ≡ some v
 unfolding foundOf
-found_some none v e = absurd (let z : ◌≡◌ {A = ℕ} 0 1 = cc in omega arith)
-found_some (some w) v e = let q : w ≡ v = cc in rw q
+found-some none v e = absurd (let z : ◌≡◌ {A = ℕ} 0 1 = cc in omega arith)
+found-some (some w) v e = let q : w ≡ v = cc in rw q
 
 module _ (f : ℕ → Bool) (n v : ℕ) where
-  at_here : v < n → least f v ≡ none → f v ≡ true → At v ≡ foundOf (least f n)
+  at-here : v < n → least f v ≡ none → f v ≡ true → At v ≡ foundOf (least f n)
   unfolding foundOf
-  at_here h e t = rw (least-here f n v h e t)
+  at-here h e t = rw (least-here f n v h e t)
 
-  at_none : v ≤ n → n ≤ v → least f v ≡ none → Nothing ≡ foundOf (least f n)
+  at-none : v ≤ n → n ≤ v → least f v ≡ none → Nothing ≡ foundOf (least f n)
   unfolding foundOf
-  at_none h k e = rw (least-end f n v h k e)
+  at-none h k e = rw (least-end f n v h k e)
 
 pub untaken-is : (t v : ℕ) (x : Bool) → x ≡ bitIn t v → not x ≡ untakenBy t v
 unfolding untakenBy
@@ -82,9 +82,9 @@ module _ (m t b : ℕ) (x : Bool) (ex : x ≡ not (not (bitIn m b) || bitIn t b)
   unfolding covered
   covered-on i e = all-on (λ b. not (bitIn m b) || bitIn t b) b i (not-false _ (sym ex ∙ e))
 
-pub covered_start : (m t : ℕ) → covered m t 0 ≡ true
+pub covered-start : (m t : ℕ) → covered m t 0 ≡ true
 unfolding covered all-below
-covered_start m t = refl
+covered-start m t = refl
 
 pub covered-all : (m t n b : ℕ) → b ≤ n → n ≤ b → covered m t b ≡ true → true ≡ covered m t n
 covered-all m t n b h k i = let q : n ≡ b = omega arith in rw q (sym i)
@@ -102,95 +102,95 @@ module _ (ms : List ℕ) (n t v : ℕ) where
   pub ready-found : (x : Bool) → v < n → least (readyBy ms n t) v ≡ none → x ≡ readyBy ms n t v → x ≡ true
       → At v ≡ foundOf (leastReady ms n t)
   unfolding leastReady
-  ready-found x h i ex e = at_here (readyBy ms n t) n v h i (sym ex ∙ e)
+  ready-found x h i ex e = at-here (readyBy ms n t) n v h i (sym ex ∙ e)
 
-  pub ready_on : (x : Bool) → least (readyBy ms n t) v ≡ none → x ≡ readyBy ms n t v → x ≡ false
+  pub ready-on : (x : Bool) → least (readyBy ms n t) v ≡ none → x ≡ readyBy ms n t v → x ≡ false
       → least (readyBy ms n t) (v + 1) ≡ none
-  ready_on x i ex e = least_on (readyBy ms n t) v i (sym ex ∙ e)
+  ready-on x i ex e = least-on (readyBy ms n t) v i (sym ex ∙ e)
 
   pub ready-none : v ≤ n → n ≤ v → least (readyBy ms n t) v ≡ none → Nothing ≡ foundOf (leastReady ms n t)
   unfolding leastReady
-  ready-none h k i = at_none (readyBy ms n t) n v h k i
+  ready-none h k i = at-none (readyBy ms n t) n v h k i
 
 -- ---- the order
-mask-grown : (xs : List ℕ) (v m : ℕ) → mask_of (xs ++ (v ∷ [])) m ≡ bit_or (mask_of xs m) (oneBit v)
-unfolding mask_of
+mask-grown : (xs : List ℕ) (v m : ℕ) → maskOf (xs ++ (v ∷ [])) m ≡ bit_or (maskOf xs m) (oneBit v)
+unfolding maskOf
 mask-grown [] v m = refl
 mask-grown (x ∷ xs) v m = mask-grown xs v (bit_or m (oneBit x))
 
-take_none : (xs : List ℕ) → take 0 xs ≡ []
-take_none [] = refl
-take_none (x ∷ xs) = refl
+take-none : (xs : List ℕ) → take 0 xs ≡ []
+take-none [] = refl
+take-none (x ∷ xs) = refl
 
-pub mask_start : (xs : List ℕ) → 0 ≡ mask_of (take 0 xs) 0
-unfolding mask_of
-mask_start [] = refl
-mask_start (x ∷ xs) = refl
+pub mask-start : (xs : List ℕ) → 0 ≡ maskOf (take 0 xs) 0
+unfolding maskOf
+mask-start [] = refl
+mask-start (x ∷ xs) = refl
 
-pub order-start : (ms : List ℕ) (n : ℕ) (xs : List ℕ) → takeBy ms n (n - 0) (take 0 xs) ≡ order_by ms n
-unfolding order_by
-order-start ms n xs = rw (sub-zero n, take_none xs)
+pub order-start : (ms : List ℕ) (n : ℕ) (xs : List ℕ) → takeBy ms n (n - 0) (take 0 xs) ≡ orderBy ms n
+unfolding orderBy
+order-start ms n xs = rw (sub-zero n, take-none xs)
 
 -- i variables are taken, in the front of xs, and have the mask t
-module _ (ms : List ℕ) (n i t : ℕ) (xs : List ℕ) (et : t ≡ mask_of (take i xs) 0) (inv : takeBy ms n (n - i) (take i xs) ≡ order_by ms n) where
+module _ (ms : List ℕ) (n i t : ℕ) (xs : List ℕ) (et : t ≡ maskOf (take i xs) 0) (inv : takeBy ms n (n - i) (take i xs) ≡ orderBy ms n) where
   -- the order ends here
-  mask_end : take i xs ≡ order_by ms n → t ≡ takenBy ms n
+  mask-end : take i xs ≡ orderBy ms n → t ≡ takenBy ms n
   unfolding takenBy
-  mask_end e = et ∙ ap (λ (o : List ℕ). mask_of o 0) e
+  mask-end e = et ∙ ap (λ (o : List ℕ). maskOf o 0) e
 
-  front : i ≤ n → n ≤ Max.max-variables → length xs ≡ Max.max-variables → take i xs ≡ order_by ms n → take (length (order_by ms n)) xs ≡ order_by ms n
+  front : i ≤ n → n ≤ Max.max-variables → length xs ≡ Max.max-variables → take i xs ≡ orderBy ms n → take (length (orderBy ms n)) xs ≡ orderBy ms n
   front h k l e =
       let q : length (take i xs) ≡ i = length-take i xs ∙ omega arith in
       rw (← e, q)
 
-  turn : i < n → (o : Option ℕ) → leastReady ms n t ≡ o → taking o (take i xs) (takeBy ms n (n - (i + 1))) ≡ order_by ms n
+  turn : i < n → (o : Option ℕ) → leastReady ms n t ≡ o → taking o (take i xs) (takeBy ms n (n - (i + 1))) ≡ orderBy ms n
   unfolding takeBy
   turn h o eo = rw (← eo, et) (rw (left n i h) at inv)
 
-  stopped : (r : Found) → i < n → r ≡ foundOf (leastReady ms n t) → r ≡ Nothing → take i xs ≡ order_by ms n
+  stopped : (r : Found) → i < n → r ≡ foundOf (leastReady ms n t) → r ≡ Nothing → take i xs ≡ orderBy ms n
   unfolding taking
-  stopped r h er e = turn h none (found_none _ (sym er ∙ e))
+  stopped r h er e = turn h none (found-none _ (sym er ∙ e))
 
-  ended : i ≤ n → n ≤ i → take i xs ≡ order_by ms n
+  ended : i ≤ n → n ≤ i → take i xs ≡ orderBy ms n
   unfolding takeBy
   ended h k = let z : n - i ≡ 0 = omega arith in rw z at inv
 
   pub mask-stop : (r : Found) → i < n → r ≡ foundOf (leastReady ms n t) → r ≡ Nothing → t ≡ takenBy ms n
-  mask-stop r h er e = mask_end (stopped r h er e)
+  mask-stop r h er e = mask-end (stopped r h er e)
 
   pub order-stop : (r : Found) → i < n → n ≤ Max.max-variables → length xs ≡ Max.max-variables → r ≡ foundOf (leastReady ms n t) → r ≡ Nothing
-      → take (length (order_by ms n)) xs ≡ order_by ms n
+      → take (length (orderBy ms n)) xs ≡ orderBy ms n
   order-stop r h k l er e = front (omega arith) k l (stopped r h er e)
 
   pub mask-all : i ≤ n → n ≤ i → t ≡ takenBy ms n
-  mask-all h k = mask_end (ended h k)
+  mask-all h k = mask-end (ended h k)
 
-  pub order-all : i ≤ n → n ≤ i → n ≤ Max.max-variables → length xs ≡ Max.max-variables → take (length (order_by ms n)) xs ≡ order_by ms n
+  pub order-all : i ≤ n → n ≤ i → n ≤ Max.max-variables → length xs ≡ Max.max-variables → take (length (orderBy ms n)) xs ≡ orderBy ms n
   order-all h k b l = front h b l (ended h k)
 
   grown : (v : ℕ) → i < n → n ≤ Max.max-variables → length xs ≡ Max.max-variables → take (i + 1) (set xs i v) ≡ take i xs ++ (v ∷ [])
   grown v h k l = let b : i < length xs = omega arith in rw (add-one i) (take-suc-set xs i v b)
 
-  pub mask-on : (v m : ℕ) → i < n → n ≤ Max.max-variables → length xs ≡ Max.max-variables → m ≡ oneBit v → bit_or t m ≡ mask_of (take (i + 1) (set xs i v)) 0
+  pub mask-on : (v m : ℕ) → i < n → n ≤ Max.max-variables → length xs ≡ Max.max-variables → m ≡ oneBit v → bit_or t m ≡ maskOf (take (i + 1) (set xs i v)) 0
   mask-on v m h k l em = rw (grown v h k l, mask-grown (take i xs) v 0, em, et)
 
   pub order-on : (r : Found) (v : ℕ) → i < n → n ≤ Max.max-variables → length xs ≡ Max.max-variables → r ≡ foundOf (leastReady ms n t) → r ≡ At v
-      → takeBy ms n (n - (i + 1)) (take (i + 1) (set xs i v)) ≡ order_by ms n
+      → takeBy ms n (n - (i + 1)) (take (i + 1) (set xs i v)) ≡ orderBy ms n
   unfolding taking
-  order-on r v h k l er e = rw (grown v h k l) (turn h (some v) (found_some _ v (sym er ∙ e)))
+  order-on r v h k l er e = rw (grown v h k l) (turn h (some v) (found-some _ v (sym er ∙ e)))
 
 -- ---- the lowest that is stuck
 module _ (t v : ℕ) (x : Bool) (i : least (untakenBy t) v ≡ none) (ex : x ≡ untakenBy t v) where
   pub stuck-found : (n : ℕ) → v < n → x ≡ true → At v ≡ foundOf (leastStuck t n)
   unfolding leastStuck
-  stuck-found n h e = at_here (untakenBy t) n v h i (sym ex ∙ e)
+  stuck-found n h e = at-here (untakenBy t) n v h i (sym ex ∙ e)
 
   pub stuck-on : x ≡ false → least (untakenBy t) (v + 1) ≡ none
-  stuck-on e = least_on (untakenBy t) v i (sym ex ∙ e)
+  stuck-on e = least-on (untakenBy t) v i (sym ex ∙ e)
 
 pub stuck-none : (n t v : ℕ) → v ≤ n → n ≤ v → least (untakenBy t) v ≡ none → Nothing ≡ foundOf (leastStuck t n)
 unfolding leastStuck
-stuck-none n t v h k i = at_none (untakenBy t) n v h k i
+stuck-none n t v h k i = at-none (untakenBy t) n v h k i
 
 -- ---- one move
 pub stuck-read-is : (m t b : ℕ) (x y : Bool) → x ≡ untakenBy t b → y ≡ bitIn m b → x && y ≡ stuckRead m t b
@@ -199,16 +199,16 @@ stuck-read-is m t b x y ex ey = rw (ex, ey)
 
 module _ (ms : List ℕ) (n t v m b : ℕ) (em : m ≡ get_or ms v 0) (i : least (stuckRead m t) b ≡ none) where
   pub move-found : (x : Bool) → b < n → x ≡ stuckRead m t b → x ≡ true → b ≡ moveBy ms n t v
-  unfolding moveBy or_else
+  unfolding moveBy orElse
   move-found x h ex e = rw (← em, least-here (stuckRead m t) n b h i (sym ex ∙ e))
 
   pub move-none : b ≤ n → n ≤ b → v ≡ moveBy ms n t v
-  unfolding moveBy or_else
+  unfolding moveBy orElse
   move-none h k = rw (← em, least-end (stuckRead m t) n b h k i)
 
 pub move-next : (m t b : ℕ) (x : Bool) → least (stuckRead m t) b ≡ none → x ≡ stuckRead m t b → x ≡ false
     → least (stuckRead m t) (b + 1) ≡ none
-move-next m t b x i ex e = least_on (stuckRead m t) b i (sym ex ∙ e)
+move-next m t b x i ex e = least-on (stuckRead m t) b i (sym ex ∙ e)
 
 -- ---- many moves
 module _ (ms : List ℕ) (n t v : ℕ) where
@@ -226,39 +226,39 @@ module _ (ms : List ℕ) (n t v : ℕ) where
 
 -- ---- the moves back
 module _ (ms : List ℕ) (n t w k : ℕ) (i : least (homeBy ms n t w) k ≡ none) where
-  pub back_none : k ≤ n → n ≤ k → 1 ≡ back_by ms n t w
-  unfolding back_by or_else
-  back_none h l = rw (least-end (homeBy ms n t w) n k h l i)
+  pub back-none : k ≤ n → n ≤ k → 1 ≡ backBy ms n t w
+  unfolding backBy orElse
+  back-none h l = rw (least-end (homeBy ms n t w) n k h l i)
 
   module _ (u r : ℕ) (eu : u ≡ iterate (moveBy ms n t) k w) (er : r ≡ moveBy ms n t u) where
     home-is : homeBy ms n t w k ≡ eqb r w
     unfolding homeBy iterate
     home-is = rw (er, eu)
 
-    pub back_found : k < n → r ≡ w → k + 1 ≡ back_by ms n t w
-    unfolding back_by or_else
-    back_found h e = rw (least-here (homeBy ms n t w) n k h i (home-is ∙ eq-eqb r w e), add-one k)
+    pub back-found : k < n → r ≡ w → k + 1 ≡ backBy ms n t w
+    unfolding backBy orElse
+    back-found h e = rw (least-here (homeBy ms n t w) n k h i (home-is ∙ eq-eqb r w e), add-one k)
 
-    pub back_on : (r ≡ w → ⊥) → least (homeBy ms n t w) (k + 1) ≡ none
-    back_on e = least_on (homeBy ms n t w) k i (home-is ∙ ne_eqb r w e)
+    pub back-on : (r ≡ w → ⊥) → least (homeBy ms n t w) (k + 1) ≡ none
+    back-on e = least-on (homeBy ms n t w) k i (home-is ∙ ne_eqb r w e)
 
 -- ---- the cycle
 module _ (ms : List ℕ) (n t : ℕ) (f : Found) (ef : f ≡ foundOf (leastStuck t n)) where
   pub cycle-none : f ≡ Nothing → cycleSaid All ≡ cycleBy ms n t
   unfolding cycleSaid cycleBy cycleOf
-  cycle-none e = rw (found_none _ (sym ef ∙ e))
+  cycle-none e = rw (found-none _ (sym ef ∙ e))
 
-  pub cycle-some : (v w m : ℕ) → f ≡ At v → w ≡ shownBy ms n t v → m ≡ back_by ms n t w → cycleSaid (Cycle w m) ≡ cycleBy ms n t
+  pub cycle-some : (v w m : ℕ) → f ≡ At v → w ≡ shownBy ms n t v → m ≡ backBy ms n t w → cycleSaid (Cycle w m) ≡ cycleBy ms n t
   unfolding cycleSaid cycleBy cycleOf
-  cycle-some v w m e ew em = rw (found_some _ v (sym ef ∙ e), em, ew)
+  cycle-some v w m e ew em = rw (found-some _ v (sym ef ∙ e), em, ew)
 
 -- ---- the whole
-module _ (ws ps ms : List ℕ) (n : ℕ) (e : ms ≡ masks_at ws ps) where
+module _ (ws ps ms : List ℕ) (n : ℕ) (e : ms ≡ masksAt ws ps) where
   pub tables-cycle : (t : ℕ) (r : Order) → t ≡ takenBy ms n → cycleSaid r ≡ cycleBy ms n t → cycleSaid r ≡ noCycleAt ws ps n
   unfolding noCycleAt
   tables-cycle t r et er = er ∙ rw (et, e)
 
-  pub tables-order : (xs : List ℕ) → take (length (order_by ms n)) xs ≡ order_by ms n
-      → take (length (order_at ws ps n)) xs ≡ order_at ws ps n
-  unfolding order_at
+  pub tables-order : (xs : List ℕ) → take (length (orderBy ms n)) xs ≡ orderBy ms n
+      → take (length (orderAt ws ps n)) xs ≡ orderAt ws ps n
+  unfolding orderAt
   tables-order xs q = rw e at q

@@ -5,7 +5,7 @@ use Rattle.std.specs.Int.Bits.{bit_or}
 use Rattle.word.specs.Fields as W
 use Rattle.word.specs.Limits as Max
 use Rattle.meaning.specs.Answers.{if◌then◌else◌}
-use Rattle.meaning.specs.Searches.{list_of}
+use Rattle.meaning.specs.Searches.{listOf}
 use Rattle.meaning.specs.Reading.{word}
 use Rattle.index.specs.Bits.{oneBit}
 use Rattle.order.specs.declared.Masked.{Masked}
@@ -66,5 +66,5 @@ module _ (ws : List ℕ) where
       rowsMask (W.sort (word ws i)) Max.max-rows (suc i)
       (if eqb (W.sort (word ws i)) 3 then (λ _. oneBit (W.class-read (word ws i))) else (λ _. 0))
 
-  unfoldable pub masks_at : List ℕ → List ℕ
-  masks_at ps = list_of (λ v. tableMask (get_or ps v 0)) Max.max-variables
+  unfoldable pub masksAt : List ℕ → List ℕ
+  masksAt ps = listOf (λ v. tableMask (get_or ps v 0)) Max.max-variables

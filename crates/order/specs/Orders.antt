@@ -5,14 +5,14 @@ use Rattle.std.proofs.Math.Option.{Option, none, some}
 use Rattle.std.specs.Int.Bits.{bit_or}
 use Rattle.word.specs.Limits as Max
 use Rattle.meaning.specs.Answers.{Outcome, ok, refuse}
-use Rattle.meaning.specs.Searches.{least, or_else, all-below, iterate}
+use Rattle.meaning.specs.Searches.{least, orElse, all-below, iterate}
 use Rattle.meaning.specs.Order.{taking}
 use Rattle.index.specs.Bits.{bitIn, oneBit}
 use Rattle.order.specs.declared.Found.{Found}
 use Rattle.order.specs.declared.Found.TheVariants.{At, Nothing}
 use Rattle.order.specs.declared.Order.{Order}
 use Rattle.order.specs.declared.Order.TheVariants.{All, Cycle}
-use Rattle.order.specs.Masks.{masks_at}
+use Rattle.order.specs.Masks.{masksAt}
 
 unfoldable pub foundOf : Option ℕ → Found
 foundOf none = Nothing
@@ -24,9 +24,9 @@ cycleSaid All = ok tt
 cycleSaid (Cycle w m) = refuse 9 (w ∷ m ∷ [])
 
 -- the mask m with the variables of a list
-unfoldable pub mask_of : List ℕ → ℕ → ℕ
-mask_of [] m = m
-mask_of (v ∷ vs) m = mask_of vs (bit_or m (oneBit v))
+unfoldable pub maskOf : List ℕ → ℕ → ℕ
+maskOf [] m = m
+maskOf (v ∷ vs) m = maskOf vs (bit_or m (oneBit v))
 
 -- every bit of m below n is one of t
 unfoldable pub covered : ℕ → ℕ → ℕ → Bool
@@ -52,17 +52,17 @@ module _ (ms : List ℕ) (n : ℕ) where
 
   unfoldable pub takeBy : ℕ → List ℕ → List ℕ
   takeBy zero taken = taken
-  takeBy (suc k) taken = taking (leastReady (mask_of taken 0)) taken (takeBy k)
+  takeBy (suc k) taken = taking (leastReady (maskOf taken 0)) taken (takeBy k)
 
-  unfoldable pub order_by : List ℕ
-  order_by = takeBy n []
+  unfoldable pub orderBy : List ℕ
+  orderBy = takeBy n []
 
   unfoldable pub takenBy : ℕ
-  takenBy = mask_of order_by 0
+  takenBy = maskOf orderBy 0
 
   module _ (t : ℕ) where
     unfoldable pub moveBy : ℕ → ℕ
-    moveBy v = or_else (least (stuckRead (get_or ms v 0) t) n) v
+    moveBy v = orElse (least (stuckRead (get_or ms v 0) t) n) v
 
     unfoldable pub shownBy : ℕ → ℕ
     shownBy v = iterate moveBy Max.cycle-moves v
@@ -71,19 +71,19 @@ module _ (ms : List ℕ) (n : ℕ) where
     unfoldable pub homeBy : ℕ → ℕ → Bool
     homeBy w k = eqb (iterate moveBy (suc k) w) w
 
-    unfoldable pub back_by : ℕ → ℕ
-    back_by w = suc (or_else (least (homeBy w) n) 0)
+    unfoldable pub backBy : ℕ → ℕ
+    backBy w = suc (orElse (least (homeBy w) n) 0)
 
     unfoldable pub cycleOf : Option ℕ → Outcome (Unit {0})
     cycleOf none = ok tt
-    cycleOf (some v) = refuse 9 (shownBy v ∷ back_by (shownBy v) ∷ [])
+    cycleOf (some v) = refuse 9 (shownBy v ∷ backBy (shownBy v) ∷ [])
 
     unfoldable pub cycleBy : Outcome (Unit {0})
     cycleBy = cycleOf (leastStuck t n)
 
 -- ---- from words and places
-unfoldable pub order_at : List ℕ → List ℕ → ℕ → List ℕ
-order_at ws ps n = order_by (masks_at ws ps) n
+unfoldable pub orderAt : List ℕ → List ℕ → ℕ → List ℕ
+orderAt ws ps n = orderBy (masksAt ws ps) n
 
 unfoldable pub noCycleAt : List ℕ → List ℕ → ℕ → Outcome (Unit {0})
-noCycleAt ws ps n = cycleBy (masks_at ws ps) n (takenBy (masks_at ws ps) n)
+noCycleAt ws ps n = cycleBy (masksAt ws ps) n (takenBy (masksAt ws ps) n)

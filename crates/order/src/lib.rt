@@ -4,8 +4,8 @@
 ghost use Rattle.std.specs.Prelude.{◌≡◌, not, ◌||◌, ◌≤◌, ◌<◌, length, get_or, take};
 ghost use Rattle.word.specs.Limits as Max;
 ghost use Rattle.index.specs.Bits.{bitIn};
-ghost use Rattle.order.specs.Masks.{conditionMask, eventMask, formulaMask, rowsMask, tableMask, masks_at};
-ghost use Rattle.order.specs.Orders.{covered, untakenBy, readyBy, leastReady, foundOf, order_by, takenBy, leastStuck, stuckRead, moveBy, shownBy, back_by, cycleSaid, cycleBy, order_at, noCycleAt};
+ghost use Rattle.order.specs.Masks.{conditionMask, eventMask, formulaMask, rowsMask, tableMask, masksAt};
+ghost use Rattle.order.specs.Orders.{covered, untakenBy, readyBy, leastReady, foundOf, orderBy, takenBy, leastStuck, stuckRead, moveBy, shownBy, backBy, cycleSaid, cycleBy, orderAt, noCycleAt};
 
 use index::bits::{bit, mask_of, one_bit};
 use index::{place_of, word_at};
@@ -140,7 +140,7 @@ fn table_mask(words: &[u32], places: &[usize], v: usize) -> u32
 // The masks of all variables. Past the last variable there is no table and the mask is 0.
 pub fn fill_masks(words: &[u32], places: &[usize], masks: &mut [u32])
     requires { length masks.old ≡ Max.max-variables }
-    ensures { masks.new ≡ masks_at words.now places.now }
+    ensures { masks.new ≡ masksAt words.now places.now }
 {
     for v in 0..MAX_VARIABLES {
         masks[v] = table_mask(words, places, v);
@@ -211,7 +211,7 @@ fn next_ready(masks: &[u32], n: usize, taken: u32) -> Found
 fn take_ready(masks: &[u32], n: usize, order: &mut [usize]) -> u32
     requires { (n ≤ Max.max-variables) × (length order.old ≡ Max.max-variables) }
     ensures value { result ≡ takenBy masks.now n }
-    ensures order_after { take (length (order_by masks.now n)) order.new ≡ order_by masks.now n }
+    ensures order_after { take (length (orderBy masks.now n)) order.new ≡ orderBy masks.now n }
     ensures order_len { length order.new ≡ Max.max-variables }
 {
     let mut taken = 0u32;
@@ -280,7 +280,7 @@ fn shown_from(masks: &[u32], n: usize, taken: u32, v: usize) -> usize
 // The least number of moves, at least 1, from w back to w. The variable shown is met again within n moves.
 fn moves_back(masks: &[u32], n: usize, taken: u32, w: usize) -> usize
     requires { n ≤ Max.max-variables }
-    ensures { result ≡ back_by masks.now n taken w }
+    ensures { result ≡ backBy masks.now n taken w }
 {
     let mut u = w;
     for k in 0..n {
@@ -318,7 +318,7 @@ fn find_cycle(masks: &[u32], n: usize, taken: u32) -> Order
 pub fn order_tables(words: &[u32], places: &[usize], n: usize, order: &mut [usize]) -> Order
     requires { (n ≤ Max.max-variables) × (length order.old ≡ Max.max-variables) }
     ensures result_value { cycleSaid result ≡ noCycleAt words.now places.now n }
-    ensures order_after { take (length (order_at words.now places.now n)) order.new ≡ order_at words.now places.now n }
+    ensures order_after { take (length (orderAt words.now places.now n)) order.new ≡ orderAt words.now places.now n }
     ensures order_len { length order.new ≡ Max.max-variables }
 {
     let mut masks = [0u32; MAX_VARIABLES];

@@ -2,7 +2,7 @@
 // The part of the words that is a table: from its table word to before the next table or assertion, or to the end.
 ghost use Rattle.std.specs.Prelude.{◌≡◌, ◌+◌, ◌<◌, length};
 ghost use Rattle.meaning.specs.Calls.{isTableOf, endsTable};
-ghost use Rattle.part.specs.Part.{start_at, end_at};
+ghost use Rattle.part.specs.Part.{startAt, endAt};
 
 use index::word_at;
 use word::{ASSERTION, TABLE, defined, kind};
@@ -23,7 +23,7 @@ fn ends_table(words: &[u32], i: usize) -> bool
 
 // The place of the table word of a variable, or the number of words.
 pub fn part_start(words: &[u32], variable: u32) -> usize
-    ensures { result ≡ start_at words.now variable }
+    ensures { result ≡ startAt words.now variable }
 {
     for i in 0..words.len() {
         if is_table(words, variable, i) {
@@ -36,7 +36,7 @@ pub fn part_start(words: &[u32], variable: u32) -> usize
 // The place after the table whose table word stands at `start`.
 pub fn part_end(words: &[u32], start: usize) -> usize
     requires { start < length words.now }
-    ensures { result ≡ end_at words.now start }
+    ensures { result ≡ endAt words.now start }
 {
     for i in start + 1..words.len() {
         if ends_table(words, i) {

@@ -24,9 +24,9 @@ pub two-reach : {A B C : Type 0} (m : Read A) (g : ℕ → Read B) (f : A × ℕ
     → reach (m >>> λ p. g p.1 >>> λ q. fine (f p q, q.1)) ≡ thenAt (reach m) (λ j. reach (g j))
 two-reach m g f = then-reach m _ (λ j. reach (g j)) (λ p. made-reach (g p.1) (f p))
 
-pub then_next : (r : Reached) (f : ℕ → Reached) (b : Reached) (j : ℕ) → r ≡ Next j → b ≡ f j → b ≡ thenAt r f
+pub then-next : (r : Reached) (f : ℕ → Reached) (b : Reached) (j : ℕ) → r ≡ Next j → b ≡ f j → b ≡ thenAt r f
 unfolding thenAt
-then_next r f b j e eb = rw e eb
+then-next r f b j e eb = rw e eb
 
 pub then-stop : (r : Reached) (f : ℕ → Reached) (k i : ℕ) → r ≡ Refused k i → Refused k i ≡ thenAt r f
 unfolding thenAt

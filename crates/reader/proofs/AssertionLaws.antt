@@ -19,7 +19,7 @@ use Rattle.index.specs.declared.Reached.TheVariants.{Next, Refused}
 use Rattle.index.specs.Places.{reach, thenAt}
 use Rattle.reader.specs.Formulas.{faultOf}
 use Rattle.reader.proofs.TestLaws.{kind-past}
-use Rattle.reader.proofs.Answers.{made-reach, two-reach, then_next, then-stop}
+use Rattle.reader.proofs.Answers.{made-reach, two-reach, then-next, then-stop}
 use Rattle.reader.proofs.Faults.{tested, tested-refused, tested-passed, word-then}
 
 -- ---- an assertion
@@ -97,4 +97,4 @@ module _ (ws : List ℕ) (vs : List Variable) where
       → reach (readAssertions ws vs (Max.max-assertions - i) on) ≡ reach (readAssertions ws vs Max.max-assertions at)
       → reach (readAssertions ws vs (Max.max-assertions - (i + 1)) j) ≡ reach (readAssertions ws vs Max.max-assertions at)
   assertions-on i on at j a e ea hl h inv =
-      then_next a _ (reach (readAssertions ws vs (Max.max-assertions - (i + 1)) j)) j e refl ∙ turn i on at inv a h hl ea
+      then-next a _ (reach (readAssertions ws vs (Max.max-assertions - (i + 1)) j)) j e refl ∙ turn i on at inv a h hl ea

@@ -6,7 +6,7 @@ use Prim.Native.Nat.{ℕ}
 use native.Mathlib.Omega.{arith}
 use borrow.Author.Tests.{not-true, not-false}
 use Rattle.meaning.specs.Answers.{fine, ◌>>>◌, expect}
-use Rattle.meaning.specs.Reading.{Read, word, fits, word_at}
+use Rattle.meaning.specs.Reading.{Read, word, fits, wordAt}
 use Rattle.index.specs.declared.Reached.TheVariants.{Refused}
 use Rattle.index.specs.Places.{reach}
 use Rattle.reader.specs.Formulas.{faultOf}
@@ -58,8 +58,8 @@ tested-passed true true true true k i m e z = refl
 
 -- a word that fits is the word that is there
 pub word-then : {A : Type 0} (ws kinds : List ℕ) (i : ℕ) (f : ℕ → Read A)
-    → (word_at ws kinds i >>> f) ≡ (expect (fits kinds (word ws i)) 2 i >>> λ _. f (word ws i))
-unfolding word_at
+    → (wordAt ws kinds i >>> f) ≡ (expect (fits kinds (word ws i)) 2 i >>> λ _. f (word ws i))
+unfolding wordAt
 word-then {A} ws kinds i f = go (fits kinds (word ws i))
   where
     go : (b : Bool) → ◌≡◌ {A = Read A} (expect b 2 i >>> (λ _. fine (word ws i)) >>> f) (expect b 2 i >>> λ _. f (word ws i))

@@ -9,24 +9,24 @@ use borrow.Author.Tests.{ne_eqb, not-true, not-false}
 use Rattle.word.specs.Fields as W
 use Rattle.meaning.specs.Searches.{mem, within}
 use Rattle.meaning.specs.Syntax.{Variable}
-use Rattle.meaning.specs.Reading.{word, fits, testOk, conditionKinds, eventKinds, conditionBy, eventBy, word_at, readCondition, readEvent}
+use Rattle.meaning.specs.Reading.{word, fits, testOk, conditionKinds, eventKinds, conditionBy, eventBy, wordAt, readCondition, readEvent}
 use Rattle.index.specs.declared.Reached.{Reached}
 use Rattle.index.specs.declared.Reached.TheVariants.{Next, Refused}
 use Rattle.index.specs.Places.{reach, thenAt}
 use Rattle.reader.specs.Formulas.{changeReach}
 use Rattle.reader.proofs.TestLaws.{kind-past}
-use Rattle.reader.proofs.Answers.{made-reach, two-reach, then_next, then-stop}
+use Rattle.reader.proofs.Answers.{made-reach, two-reach, then-next, then-stop}
 
 -- ---- conditions
 condition-unfit : (ws : List ℕ) (vs : List Variable) (n at : ℕ) → fits conditionKinds (word ws at) ≡ false
     → Refused 2 at ≡ reach (readCondition ws vs n at)
-unfolding readCondition reach word_at
+unfolding readCondition reach wordAt
 condition-unfit ws vs zero at e = rw e
 condition-unfit ws vs (suc n) at e = rw e
 
 condition-unroll : (ws : List ℕ) (vs : List Variable) (n at : ℕ) → fits conditionKinds (word ws at) ≡ true → (n ≡ 0 → ⊥)
     → conditionBy vs (readCondition ws vs (n - 1)) (word ws at) at ≡ readCondition ws vs n at
-unfolding readCondition word_at
+unfolding readCondition wordAt
 condition-unroll ws vs zero at e nz = absurd (nz refl)
 condition-unroll ws vs (suc n) at e nz = rw (e, sub-one (suc n))
 
@@ -40,7 +40,7 @@ module _ (ws : List ℕ) (vs : List Variable) (n at : ℕ) where
     condition-bad e = condition-unfit ws vs n at (rw (← ew, ← ef) (not-true f e))
 
     pub condition-deep : not f ≡ false → n ≡ 0 → Refused 4 at ≡ reach (readCondition ws vs n at)
-    unfolding readCondition reach word_at
+    unfolding readCondition reach wordAt
     condition-deep e z = let g : fits conditionKinds (word ws at) ≡ true = rw (← ew, ← ef) (not-false f e) in rw (z, g)
 
     -- a word w of kind k is there that a condition may start with
@@ -77,7 +77,7 @@ module _ (ws : List ℕ) (vs : List Variable) (n at : ℕ) where
 
         pub condition-both : (b : Reached) (j : ℕ) → a ≡ Next j → b ≡ reach (readCondition ws vs (n - 1) j)
             → b ≡ reach (readCondition ws vs n at)
-        condition-both b j an eb = two b (then_next a _ b j an eb)
+        condition-both b j an eb = two b (then-next a _ b j an eb)
 
         pub condition-stop : (q i : ℕ) → a ≡ Refused q i → Refused q i ≡ reach (readCondition ws vs n at)
         condition-stop q i an = two _ (then-stop a _ q i an)
@@ -89,7 +89,7 @@ pub ruleset conditions =
 module _ (ws : List ℕ) (vs : List Variable) (n at : ℕ) (a : Reached) (ea : a ≡ reach (readCondition ws vs n at)) where
   pub change-both : (b : Reached) (j : ℕ) → a ≡ Next j → b ≡ reach (readCondition ws vs n j) → b ≡ changeReach ws vs n at
   unfolding changeReach
-  change-both b j an eb = then_next _ _ b j (sym ea ∙ an) eb
+  change-both b j an eb = then-next _ _ b j (sym ea ∙ an) eb
 
   pub change-stop : (q i : ℕ) → a ≡ Refused q i → Refused q i ≡ changeReach ws vs n at
   unfolding changeReach
@@ -98,13 +98,13 @@ module _ (ws : List ℕ) (vs : List Variable) (n at : ℕ) (a : Reached) (ea : a
 -- ---- events
 event-unfit : (ws : List ℕ) (vs : List Variable) (n at : ℕ) → fits eventKinds (word ws at) ≡ false
     → Refused 2 at ≡ reach (readEvent ws vs n at)
-unfolding readEvent reach word_at
+unfolding readEvent reach wordAt
 event-unfit ws vs zero at e = rw e
 event-unfit ws vs (suc n) at e = rw e
 
 event-unroll : (ws : List ℕ) (vs : List Variable) (n at : ℕ) → fits eventKinds (word ws at) ≡ true → (n ≡ 0 → ⊥)
     → eventBy (readEvent ws vs (n - 1)) (readCondition ws vs (n - 1)) (word ws at) at ≡ readEvent ws vs n at
-unfolding readEvent word_at
+unfolding readEvent wordAt
 event-unroll ws vs zero at e nz = absurd (nz refl)
 event-unroll ws vs (suc n) at e nz = rw (e, sub-one (suc n))
 
@@ -118,7 +118,7 @@ module _ (ws : List ℕ) (vs : List Variable) (n at : ℕ) where
     event-bad e = event-unfit ws vs n at (rw (← ew, ← ef) (not-true f e))
 
     pub event-deep : not f ≡ false → n ≡ 0 → Refused 4 at ≡ reach (readEvent ws vs n at)
-    unfolding readEvent reach word_at
+    unfolding readEvent reach wordAt
     event-deep e z = let g : fits eventKinds (word ws at) ≡ true = rw (← ew, ← ef) (not-false f e) in rw (z, g)
 
     module _ (k : ℕ) (e : not f ≡ false) (nz : n ≡ 0 → ⊥) (ek : k ≡ W.kind w) where
@@ -143,7 +143,7 @@ module _ (ws : List ℕ) (vs : List Variable) (n at : ℕ) where
 
         pub event-both : (b : Reached) (j : ℕ) → a ≡ Next j → b ≡ reach (readEvent ws vs (n - 1) j)
             → b ≡ reach (readEvent ws vs n at)
-        event-both b j an eb = two-events b (then_next a _ b j an eb)
+        event-both b j an eb = two-events b (then-next a _ b j an eb)
 
         pub event-stop : (q i : ℕ) → a ≡ Refused q i → Refused q i ≡ reach (readEvent ws vs n at)
         event-stop q i an = two-events _ (then-stop a _ q i an)

@@ -14,40 +14,40 @@ use Rattle.word.specs.Fields as W
 use Rattle.word.specs.Limits as Max
 use Rattle.meaning.specs.Answers.{fine, stop, ◌>>>◌, expect, if◌then◌else◌}
 use Rattle.meaning.specs.Syntax.{Event, Variable, Table, Body}
-use Rattle.meaning.specs.Lookup.{definedBy, table_of, is_some, hasTable}
-use Rattle.meaning.specs.Reading.{Read, word, fits, tableOk, tableFits, body_of, eventTableBy, word_at, read_body, readTable, read_tables}
+use Rattle.meaning.specs.Lookup.{definedBy, tableOf, isSome, hasTable}
+use Rattle.meaning.specs.Reading.{Read, word, fits, tableOk, tableFits, bodyOf, eventTableBy, wordAt, readBody, readTable, readTables}
 use Rattle.theory.specs.Tests.{and-true}
 use Rattle.theory.specs.Found.{fine-same, then-fine, expect-fine}
 use Rattle.index.specs.declared.Reached.TheVariants.{Next, Refused}
 use Rattle.index.specs.Places.{told, place-count}
 use Rattle.index.specs.Indexed.{Placed, absent, there}
-use Rattle.reader.specs.Tables.{is_placed, readPlaces}
+use Rattle.reader.specs.Tables.{isPlaced, readPlaces}
 use Rattle.reader.specs.Variables.{NoTables}
 use Rattle.reader.proofs.Faults.{word-then}
 use Rattle.reader.proofs.TableLaws.{conditionRows, eventRows, conditionTable, eventTable, defined-below}
 
 -- each variable's entry against its table
 abbrev pub Places : List ℕ → List Variable → List Table → List ℕ → Type 0
-Places ws vs ts ps = (v : ℕ) → v < Max.max-variables → Placed ws vs (get_or ps v 0) (table_of ts v)
+Places ws vs ts ps = (v : ℕ) → v < Max.max-variables → Placed ws vs (get_or ps v 0) (tableOf ts v)
 
-word_read : (ws kinds : List ℕ) (i w : ℕ) → word_at ws kinds i ≡ fine w → word ws i ≡ w
-unfolding word_at
-word_read ws kinds i w e = fine-same (then-fine (expect (fits kinds (word ws i)) 2 i) _ w e).2
+word-read : (ws kinds : List ℕ) (i w : ℕ) → wordAt ws kinds i ≡ fine w → word ws i ≡ w
+unfolding wordAt
+word-read ws kinds i w e = fine-same (then-fine (expect (fits kinds (word ws i)) 2 i) _ w e).2
 
 -- ---- one entry
 module _ (ws : List ℕ) (vs : List Variable) where
-  placed-some : {p : ℕ} {o : Option Table} → Placed ws vs p o → is_some o ≡ not (eqb p 0)
-  unfolding is_some
+  placed-some : {p : ℕ} {o : Option Table} → Placed ws vs p o → isSome o ≡ not (eqb p 0)
+  unfolding isSome
   placed-some absent = refl
   placed-some (there i j t e) = rw (ne_eqb (suc i) 0 (λ q. (let z : ⊥ = omega arith in z)))
 
   pub places-have : (ts : List Table) (ps : List ℕ) → Places ws vs ts ps → (v : ℕ) → v < Max.max-variables
-      → hasTable ts v ≡ is_placed ps v
-  unfolding hasTable is_placed
+      → hasTable ts v ≡ isPlaced ps v
+  unfolding hasTable isPlaced
   places-have ts ps ix v l = placed-some (ix v l)
 
-has-none : (o : Option Table) → is_some o ≡ false → o ≡ none
-unfolding is_some
+has-none : (o : Option Table) → isSome o ≡ false → o ≡ none
+unfolding isSome
 has-none none e = refl
 has-none (some t) e = let z : ◌≡◌ {A = ℕ} 0 1 = cc in absurd (omega arith)
 
@@ -56,24 +56,24 @@ none-not-some : {A : Type 0} {a : A} → ◌≡◌ {A = Option A} (some a) none 
 none-not-some e = let z : ◌≡◌ {A = ℕ} 0 1 = cc in omega arith
 
 module _ (t : Table) (u : ℕ) where
-  other-table : (ts : List Table) → eqb (definedBy t) u ≡ false → table_of (ts ++ (t ∷ [])) u ≡ table_of ts u
-  unfolding table_of
+  other-table : (ts : List Table) → eqb (definedBy t) u ≡ false → tableOf (ts ++ (t ∷ [])) u ≡ tableOf ts u
+  unfolding tableOf
   other-table [] e = rw e
   other-table (x ∷ ts) e = go (eqb (definedBy x) u) (other-table ts e)
     where
-      go : (b : Bool) → table_of (ts ++ (t ∷ [])) u ≡ table_of ts u
-          → (if b then (λ _. some x) else (λ _. table_of (ts ++ (t ∷ [])) u)) ≡ (if b then (λ _. some x) else (λ _. table_of ts u))
+      go : (b : Bool) → tableOf (ts ++ (t ∷ [])) u ≡ tableOf ts u
+          → (if b then (λ _. some x) else (λ _. tableOf (ts ++ (t ∷ [])) u)) ≡ (if b then (λ _. some x) else (λ _. tableOf ts u))
       go true h = refl
       go false h = h
 
-  new-table : (ts : List Table) → eqb (definedBy t) u ≡ true → table_of ts u ≡ none → table_of (ts ++ (t ∷ [])) u ≡ some t
-  unfolding table_of
+  new-table : (ts : List Table) → eqb (definedBy t) u ≡ true → tableOf ts u ≡ none → tableOf (ts ++ (t ∷ [])) u ≡ some t
+  unfolding tableOf
   new-table [] e h = rw e
   new-table (x ∷ ts) e h = go (eqb (definedBy x) u) (new-table ts e) h
     where
-      go : (b : Bool) → (table_of ts u ≡ none → table_of (ts ++ (t ∷ [])) u ≡ some t)
-          → (if b then (λ _. some x) else (λ _. table_of ts u)) ≡ none
-          → (if b then (λ _. some x) else (λ _. table_of (ts ++ (t ∷ [])) u)) ≡ some t
+      go : (b : Bool) → (tableOf ts u ≡ none → tableOf (ts ++ (t ∷ [])) u ≡ some t)
+          → (if b then (λ _. some x) else (λ _. tableOf ts u)) ≡ none
+          → (if b then (λ _. some x) else (λ _. tableOf (ts ++ (t ∷ [])) u)) ≡ some t
       go true ih h = absurd (none-not-some h)
       go false ih h = ih h
 
@@ -84,8 +84,8 @@ event-defines true x = refl
 event-defines false x = refl
 
 module _ (ws : List ℕ) (vs : List Variable) where
-  body-defines : (w i j : ℕ) (t : Table) → read_body ws vs w i ≡ fine (t, j) → definedBy t ≡ W.defined w
-  unfolding read_body definedBy body_of
+  body-defines : (w i j : ℕ) (t : Table) → readBody ws vs w i ≡ fine (t, j) → definedBy t ≡ W.defined w
+  unfolding readBody definedBy bodyOf
   body-defines w i j t = go (eqb (W.sort w) 3)
     where
       go : (b : Bool) → (if b then (λ _. conditionTable ws vs w i) else (λ _. eventTable ws vs w i)) ≡ fine (t, j)
@@ -95,19 +95,19 @@ module _ (ws : List ℕ) (vs : List Variable) where
           sym (ap (λ (p : Table × ℕ). definedBy p.0) (fine-same d.2))
       go false e =
           let d = then-fine (eventRows ws vs w i) _ (t, j) e in
-          sym (ap (λ (p : Table × ℕ). definedBy p.0) (fine-same d.2)) ∙ event-defines _ (body_of w d.0.0)
+          sym (ap (λ (p : Table × ℕ). definedBy p.0) (fine-same d.2)) ∙ event-defines _ (bodyOf w d.0.0)
 
   record TableRead (i j : ℕ) (taken : Bool) (t : Table) : Type 0 where
     pub free : taken ≡ false
     pub below : W.defined (word ws i) < length vs
-    pub body-read : read_body ws vs (word ws i) (suc i) ≡ fine (t, j)
+    pub body-read : readBody ws vs (word ws i) (suc i) ≡ fine (t, j)
 
   table-read : (i j : ℕ) (taken : Bool) (t : Table) → readTable ws vs i taken ≡ fine (t, j) → TableRead i j taken t
   unfolding readTable
   table-read i j taken t e =
       let w = word ws i in
-      let a = then-fine (word_at ws (2 ∷ []) i) _ (t, j) e in
-      let ew : w ≡ a.0 = word_read ws (2 ∷ []) i a.0 a.1 in
+      let a = then-fine (wordAt ws (2 ∷ []) i) _ (t, j) e in
+      let ew : w ≡ a.0 = word-read ws (2 ∷ []) i a.0 a.1 in
       let e' = rw (← ew) at a.2 in
       let b = then-fine (expect (tableOk vs w) 3 i) _ (t, j) e' in
       let c = then-fine (expect (tableFits vs w && not taken) 5 i) _ (t, j) b.2 in
@@ -126,7 +126,7 @@ module _ (ws : List ℕ) (vs : List Variable) where
       asked : Bool → Bool → Bool → Read Table
       asked f t taken =
           expect f 2 i >>> λ _. expect t 3 i >>> λ _. expect (tableFits vs (word ws i) && not taken) 5 i >>> λ _.
-          read_body ws vs (word ws i) (suc i)
+          readBody ws vs (word ws i) (suc i)
 
       go : (f t : Bool) → tableOk vs (word ws i) ≡ t → asked f t a ≡ asked f t b
       go false t e = refl
@@ -136,7 +136,7 @@ module _ (ws : List ℕ) (vs : List Variable) where
   -- its place goes to the entry of its variable
   grown : (ts : List Table) (ps : List ℕ) (i j : ℕ) (t : Table) → Places ws vs ts ps → length ps ≡ place-count
       → W.defined (word ws i) < Max.max-variables
-      → TableRead i j (is_placed ps (W.defined (word ws i))) t
+      → TableRead i j (isPlaced ps (W.defined (word ws i))) t
       → Places ws vs (ts ++ (t ∷ [])) (set ps (W.defined (word ws i)) (suc i))
   unfolding hasTable
   grown ts ps i j t ix len l r u lu = go (ℕ_discrete u (W.defined (word ws i)))
@@ -144,10 +144,10 @@ module _ (ws : List ℕ) (vs : List Variable) where
       is : definedBy t ≡ W.defined (word ws i)
       is = body-defines (word ws i) (suc i) j t r.body-read
 
-      go : Dec (u ≡ W.defined (word ws i)) → Placed ws vs (get_or (set ps (W.defined (word ws i)) (suc i)) u 0) (table_of (ts ++ (t ∷ [])) u)
+      go : Dec (u ≡ W.defined (word ws i)) → Placed ws vs (get_or (set ps (W.defined (word ws i)) (suc i)) u 0) (tableOf (ts ++ (t ∷ [])) u)
       go (yes e) =
-          let n : table_of ts (W.defined (word ws i)) ≡ none
-          = has-none (table_of ts (W.defined (word ws i))) (places-have ws vs ts ps ix (W.defined (word ws i)) l ∙ r.free) in
+          let n : tableOf ts (W.defined (word ws i)) ≡ none
+          = has-none (tableOf ts (W.defined (word ws i))) (places-have ws vs ts ps ix (W.defined (word ws i)) l ∙ r.free) in
           rw (e, get_or-set_same ps (W.defined (word ws i)) (suc i) 0 (rw len (omega arith)), new-table t (W.defined (word ws i)) ts (eq-eqb (definedBy t) (W.defined (word ws i)) is) n)
           (there i j t r.body-read)
       go (no e) =
@@ -163,11 +163,11 @@ Agree ws vs (stop k i) (fine b) = ⊥
 
 module _ (ws : List ℕ) (vs : List Variable) (few : length vs ≤ Max.max-variables) where
   agree : (l i : ℕ) (ts : List Table) (ps : List ℕ) → length ps ≡ place-count → Places ws vs ts ps
-      → Agree ws vs (read_tables ws vs l i ts) (readPlaces ws vs l i ps)
-  unfolding read_tables readPlaces
+      → Agree ws vs (readTables ws vs l i ts) (readPlaces ws vs l i ps)
+  unfolding readTables readPlaces
   agree zero i ts ps len ix =
-      rw (table-asks ws vs i (hasTable ts (W.defined (word ws i))) (is_placed ps (W.defined (word ws i))) (λ l. places-have ws vs ts ps ix (W.defined (word ws i)) (omega arith)))
-      (go (eqb (W.kind (word ws i)) 2) (readTable ws vs i (is_placed ps (W.defined (word ws i)))))
+      rw (table-asks ws vs i (hasTable ts (W.defined (word ws i))) (isPlaced ps (W.defined (word ws i))) (λ l. places-have ws vs ts ps ix (W.defined (word ws i)) (omega arith)))
+      (go (eqb (W.kind (word ws i)) 2) (readTable ws vs i (isPlaced ps (W.defined (word ws i)))))
     where
       go : (b : Bool) (m : Read Table)
           → Agree ws vs (if b then (λ _. m >>> λ _. stop 5 i) else (λ _. fine (ts, i))) (if b then (λ _. m >>> λ _. stop 5 i) else (λ _. fine (ps, i)))
@@ -175,43 +175,43 @@ module _ (ws : List ℕ) (vs : List Variable) (few : length vs ≤ Max.max-varia
       go true (stop k x) = (refl, refl)
       go false m = (refl, ix)
   agree (suc l) i ts ps len ix =
-      rw (table-asks ws vs i (hasTable ts (W.defined (word ws i))) (is_placed ps (W.defined (word ws i))) (λ l. places-have ws vs ts ps ix (W.defined (word ws i)) (omega arith)))
-      (go (eqb (W.kind (word ws i)) 2) (readTable ws vs i (is_placed ps (W.defined (word ws i)))) refl
-      (λ t j e. let r = table-read ws vs i j (is_placed ps (W.defined (word ws i))) t e in
+      rw (table-asks ws vs i (hasTable ts (W.defined (word ws i))) (isPlaced ps (W.defined (word ws i))) (λ l. places-have ws vs ts ps ix (W.defined (word ws i)) (omega arith)))
+      (go (eqb (W.kind (word ws i)) 2) (readTable ws vs i (isPlaced ps (W.defined (word ws i)))) refl
+      (λ t j e. let r = table-read ws vs i j (isPlaced ps (W.defined (word ws i))) t e in
       agree l j (ts ++ (t ∷ [])) (set ps (W.defined (word ws i)) (suc i)) (length-set ps (W.defined (word ws i)) (suc i) ∙ len)
       (grown ws vs ts ps i j t ix len (omega (arith, r.below)) r)))
     where
-      go : (b : Bool) (m : Read Table) → readTable ws vs i (is_placed ps (W.defined (word ws i))) ≡ m
-          → ((t : Table) (j : ℕ) → readTable ws vs i (is_placed ps (W.defined (word ws i))) ≡ fine (t, j)
-          → Agree ws vs (read_tables ws vs l j (ts ++ (t ∷ []))) (readPlaces ws vs l j (set ps (W.defined (word ws i)) (suc i))))
-          → Agree ws vs (if b then (λ _. m >>> λ r. read_tables ws vs l r.1 (ts ++ (r.0 ∷ []))) else (λ _. fine (ts, i)))
+      go : (b : Bool) (m : Read Table) → readTable ws vs i (isPlaced ps (W.defined (word ws i))) ≡ m
+          → ((t : Table) (j : ℕ) → readTable ws vs i (isPlaced ps (W.defined (word ws i))) ≡ fine (t, j)
+          → Agree ws vs (readTables ws vs l j (ts ++ (t ∷ []))) (readPlaces ws vs l j (set ps (W.defined (word ws i)) (suc i))))
+          → Agree ws vs (if b then (λ _. m >>> λ r. readTables ws vs l r.1 (ts ++ (r.0 ∷ []))) else (λ _. fine (ts, i)))
           (if b then (λ _. m >>> λ r. readPlaces ws vs l r.1 (set ps (W.defined (word ws i)) (suc i))) else (λ _. fine (ps, i)))
       go true (fine r) e ih = ih r.0 r.1 e
       go true (stop k x) e ih = (refl, refl)
       go false m e ih = (refl, ix)
 
   module _ (p₀ : List ℕ) (len : length p₀ ≡ place-count) (none_yet : NoTables p₀) where
-    at_first : Places ws vs [] p₀
-    unfolding table_of NoTables
-    at_first v l = rw (none_yet v l) absent
+    at-first : Places ws vs [] p₀
+    unfolding tableOf NoTables
+    at-first v l = rw (none_yet v l) absent
 
-    agreed : (n i : ℕ) → Agree ws vs (read_tables ws vs n i []) (readPlaces ws vs n i p₀)
-    agreed n i = agree n i [] p₀ len at_first
+    agreed : (n i : ℕ) → Agree ws vs (readTables ws vs n i []) (readPlaces ws vs n i p₀)
+    agreed n i = agree n i [] p₀ len at-first
 
-    -- what the answer of read_tables and what it wrote say of the meaning
+    -- what the answer of readTables and what it wrote say of the meaning
     pub tables-stopped : (n i k x : ℕ) (ps : List ℕ) → told (Refused k x) ps ≡ readPlaces ws vs n i p₀
-        → read_tables ws vs n i [] ≡ stop k x
+        → readTables ws vs n i [] ≡ stop k x
     unfolding told
-    tables-stopped n i k x ps e = go (read_tables ws vs n i []) (rw (← e) at (agreed n i))
+    tables-stopped n i k x ps e = go (readTables ws vs n i []) (rw (← e) at (agreed n i))
       where
         go : (m : Read (List Table)) → Agree ws vs m (stop k x) → m ≡ stop k x
         go (stop l y) (p, q) = rw (p, q)
         go (fine a) h = absurd h
 
     pub tables-read : (n i j : ℕ) (ps : List ℕ) → told (Next j) ps ≡ readPlaces ws vs n i p₀
-        → (ts : List Table) × (read_tables ws vs n i [] ≡ fine (ts, j)) × Places ws vs ts ps
+        → (ts : List Table) × (readTables ws vs n i [] ≡ fine (ts, j)) × Places ws vs ts ps
     unfolding told
-    tables-read n i j ps e = go (read_tables ws vs n i []) (rw (← e) at (agreed n i))
+    tables-read n i j ps e = go (readTables ws vs n i []) (rw (← e) at (agreed n i))
       where
         go : (m : Read (List Table)) → Agree ws vs m (fine (ps, j))
             → (ts : List Table) × (m ≡ fine (ts, j)) × Places ws vs ts ps

@@ -13,14 +13,14 @@ use Rattle.word.specs.Limits as Max
 use Rattle.meaning.specs.Answers.{fine, ◌>>>◌, if◌then◌else◌}
 use Rattle.meaning.specs.Searches.{mem}
 use Rattle.meaning.specs.Syntax.{Condition, Event, Variable, Row}
-use Rattle.meaning.specs.Reading.{Read, word, fits, row_ok, row_of, rows_by, readCondition, readEvent, readRow, readRows}
+use Rattle.meaning.specs.Reading.{Read, word, fits, rowOk, rowOf, rowsBy, readCondition, readEvent, readRow, readRows}
 use Rattle.theory.specs.Loops.{left}
 use Rattle.index.specs.declared.Reached.{Reached}
 use Rattle.index.specs.declared.Reached.TheVariants.{Next, Refused}
 use Rattle.index.specs.Places.{reach, thenAt}
 use Rattle.reader.specs.Formulas.{faultOf, byType, formulaReach, rowReach, rowsReach}
 use Rattle.reader.proofs.TestLaws.{kind-past}
-use Rattle.reader.proofs.Answers.{then-reach, made-reach, then_next, then-stop}
+use Rattle.reader.proofs.Answers.{then-reach, made-reach, then-next, then-stop}
 use Rattle.reader.proofs.Faults.{tested, tested-refused, tested-passed, word-then}
 
 -- ---- the formula of a row
@@ -40,14 +40,14 @@ rowThen false r j = Next j
 
 module _ (ws : List ℕ) (vs : List Variable) {F : Type 0} (formula : ℕ → Read F) (v m : ℕ) where
   row-tested : (l at : ℕ) → reach (readRow ws vs formula v m l at)
-      ≡ reach (tested (fits (3 ∷ []) (word ws at)) (ltb 0 l) (row_ok vs v m (word ws at)) true at
-      (formula (suc at) >>> λ r. fine (row_of (word ws at) r.0, r.1)))
+      ≡ reach (tested (fits (3 ∷ []) (word ws at)) (ltb 0 l) (rowOk vs v m (word ws at)) true at
+      (formula (suc at) >>> λ r. fine (rowOf (word ws at) r.0, r.1)))
   unfolding readRow
   row-tested l at = ap reach (word-then ws (3 ∷ []) at _)
 
   rows-by : (rec : ℕ → Read (List (Row F))) (k : ℕ) (p : Row F × ℕ)
-      → reach (rows_by k rec p) ≡ rowThen (eqb k 3) (reach (rec p.1)) p.1
-  unfolding rows_by reach
+      → reach (rowsBy k rec p) ≡ rowThen (eqb k 3) (reach (rec p.1)) p.1
+  unfolding rowsBy reach
   rows-by rec k p = go (eqb k 3)
     where
       go : (b : Bool)
@@ -82,7 +82,7 @@ module _ (ws : List ℕ) (vs : List Variable) (t : ℕ) where
 
 -- ---- a row of a table of type t
 module _ (ws : List ℕ) (vs : List Variable) (t v m l at : ℕ) where
-  module _ (k : ℕ) (ek : k ≡ faultOf (fits (3 ∷ []) (word ws at)) (ltb 0 l) (row_ok vs v m (word ws at)) true) where
+  module _ (k : ℕ) (ek : k ≡ faultOf (fits (3 ∷ []) (word ws at)) (ltb 0 l) (rowOk vs v m (word ws at)) true) where
     row-refused : (k ≡ 0 → ⊥) → Refused k at ≡ rowReach ws vs t v m l at
     unfolding rowReach
     row-refused nz =
@@ -103,22 +103,22 @@ module _ (ws : List ℕ) (vs : List Variable) (t v m l at : ℕ) where
   unfolding fits mem faultOf
   row-past h = row-refused 2 (rw (kind-past ws at h)) (λ e. (let z : ⊥ = omega arith in z))
 
-  module _ (w k : ℕ) (f b : Bool) (ew : w ≡ word ws at) (ef : f ≡ fits (3 ∷ []) w) (eb : b ≡ row_ok vs v m w)
+  module _ (w k : ℕ) (f b : Bool) (ew : w ≡ word ws at) (ef : f ≡ fits (3 ∷ []) w) (eb : b ≡ rowOk vs v m w)
       (ek : k ≡ faultOf f (ltb 0 l) b true) where
     pub row-fault : (k ≡ 0 → ⊥) → Refused k at ≡ rowReach ws vs t v m l at
     row-fault nz = row-refused k (rw (← ew, ← ef, ← eb) ek) nz
 
-    pub row_on : (r : Reached) → k ≡ 0 → r ≡ formulaReach ws vs t (at + 1) → r ≡ rowReach ws vs t v m l at
-    row_on r z er = er ∙ rw (add-one at) (row-passed k (rw (← ew, ← ef, ← eb) ek) z)
+    pub row-on : (r : Reached) → k ≡ 0 → r ≡ formulaReach ws vs t (at + 1) → r ≡ rowReach ws vs t v m l at
+    row-on r z er = er ∙ rw (add-one at) (row-passed k (rw (← ew, ← ef, ← eb) ek) z)
 
-pub ruleset row_laws = (row-past, row-fault, row_on)
+pub ruleset row-laws = (row-past, row-fault, row-on)
 
 -- ---- the rows of a table of type t: what is left to read from here is the whole reading
 module _ (ws : List ℕ) (vs : List Variable) (t v m : ℕ) where
-  rows_step : (l on : ℕ) → rowsReach ws vs t v m (suc l) on
+  rows-step : (l on : ℕ) → rowsReach ws vs t v m (suc l) on
       ≡ thenAt (rowReach ws vs t v m (suc l) on) (λ j. rowThen (eqb (W.kind (word ws j)) 3) (rowsReach ws vs t v m l j) j)
   unfolding rowsReach rowReach
-  rows_step l on = go (eqb t 3)
+  rows-step l on = go (eqb t 3)
     where
       go : (b : Bool)
           → (if b
@@ -133,16 +133,16 @@ module _ (ws : List ℕ) (vs : List Variable) (t v m : ℕ) where
       go true = rows-unrolled ws vs (readCondition ws vs Max.max-depth) v m l on
       go false = rows-unrolled ws vs (readEvent ws vs Max.max-depth) v m l on
 
-  rows_last : (on : ℕ) → rowReach ws vs t v m 0 on ≡ rowsReach ws vs t v m 0 on
+  rows-last : (on : ℕ) → rowReach ws vs t v m 0 on ≡ rowsReach ws vs t v m 0 on
   unfolding rowsReach rowReach
-  rows_last on =
+  rows-last on =
       by-type ws vs t (λ F formula. reach (readRow ws vs formula v m 0 on)) (λ F formula. reach (readRows ws vs formula v m 0 on))
       (λ F formula. rows-ended ws vs formula v m on)
 
   pub rows-over : (i on at : ℕ) (r : Reached) → Max.max-rows ≤ i
       → rowsReach ws vs t v m (Max.max-rows - i) on ≡ rowsReach ws vs t v m Max.max-rows at
       → r ≡ rowReach ws vs t v m 0 on → r ≡ rowsReach ws vs t v m Max.max-rows at
-  rows-over i on at r h inv er = let z : Max.max-rows - i ≡ 0 = omega arith in er ∙ rows_last on ∙ (rw z at inv)
+  rows-over i on at r h inv er = let z : Max.max-rows - i ≡ 0 = omega arith in er ∙ rows-last on ∙ (rw z at inv)
 
   module _ (i on at : ℕ) (h : i < Max.max-rows)
       (inv : rowsReach ws vs t v m (Max.max-rows - i) on ≡ rowsReach ws vs t v m Max.max-rows at)
@@ -150,19 +150,19 @@ module _ (ws : List ℕ) (vs : List Variable) (t v m : ℕ) where
     rows-turn : thenAt a (λ j. rowThen (eqb (W.kind (word ws j)) 3) (rowsReach ws vs t v m (Max.max-rows - (i + 1)) j) j)
         ≡ rowsReach ws vs t v m Max.max-rows at
     rows-turn =
-        rw (ea, left Max.max-rows i h) (sym (rows_step (Max.max-rows - (i + 1)) on) ∙ (rw (left Max.max-rows i h) at inv))
+        rw (ea, left Max.max-rows i h) (sym (rows-step (Max.max-rows - (i + 1)) on) ∙ (rw (left Max.max-rows i h) at inv))
 
     pub rows-refused : (k x : ℕ) → a ≡ Refused k x → Refused k x ≡ rowsReach ws vs t v m Max.max-rows at
     rows-refused k x e = then-stop a _ k x e ∙ rows-turn
 
     module _ (j w k : ℕ) (e : a ≡ Next j) (ew : w ≡ word ws j) (ek : k ≡ W.kind w) where
-      pub rows_end : (k ≡ 3 → ⊥) → Next j ≡ rowsReach ws vs t v m Max.max-rows at
-      rows_end n = then_next a _ (Next j) j e (rw (← ew, ← ek, ne_eqb k 3 n)) ∙ rows-turn
+      pub rows-end : (k ≡ 3 → ⊥) → Next j ≡ rowsReach ws vs t v m Max.max-rows at
+      rows-end n = then-next a _ (Next j) j e (rw (← ew, ← ek, ne_eqb k 3 n)) ∙ rows-turn
 
   -- the premises in an order in which each one shows what the next is about
-  pub rows_on : (i on at j w k : ℕ) (a : Reached) → a ≡ Next j → a ≡ rowReach ws vs t v m (Max.max-rows - i) on → w ≡ word ws j
+  pub rows-on : (i on at j w k : ℕ) (a : Reached) → a ≡ Next j → a ≡ rowReach ws vs t v m (Max.max-rows - i) on → w ≡ word ws j
       → k ≡ W.kind w → k ≡ 3 → i < Max.max-rows
       → rowsReach ws vs t v m (Max.max-rows - i) on ≡ rowsReach ws vs t v m Max.max-rows at
       → rowsReach ws vs t v m (Max.max-rows - (i + 1)) j ≡ rowsReach ws vs t v m Max.max-rows at
-  rows_on i on at j w k a e ea ew ek e3 h inv =
-      then_next a _ (rowsReach ws vs t v m (Max.max-rows - (i + 1)) j) j e (rw (← ew, ← ek, e3)) ∙ rows-turn i on at h inv a ea
+  rows-on i on at j w k a e ea ew ek e3 h inv =
+      then-next a _ (rowsReach ws vs t v m (Max.max-rows - (i + 1)) j) j e (rw (← ew, ← ek, e3)) ∙ rows-turn i on at h inv a ea

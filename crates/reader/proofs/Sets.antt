@@ -12,10 +12,10 @@ use Rattle.meaning.specs.Searches.{every}
 use Rattle.meaning.specs.Syntax.{TableSet}
 use Rattle.meaning.specs.Lookup.{count, isMonitored, source}
 use Rattle.meaning.specs.Reading.{variableOf}
-use Rattle.meaning.specs.States.{is_held, stateCount, tabled, startsAtZero, fewStates, readTyped}
+use Rattle.meaning.specs.States.{isHeld, stateCount, tabled, startsAtZero, fewStates, readTyped}
 use Rattle.index.specs.Places.{variablesTo}
 use Rattle.index.specs.Indexed.{Indexed}
-use Rattle.index.proofs.Means.{count-is, variable-is, initial-is, held-is, weight_is}
+use Rattle.index.proofs.Means.{count-is, variable-is, initial-is, held-is, weight-is}
 use Rattle.reader.specs.declared.Words.{Words}
 use Rattle.reader.specs.declared.Words.TheVariants as D
 use Rattle.reader.specs.declared.counts.Counted.{Counted}
@@ -37,14 +37,14 @@ module _ {ws : List ℕ} {z : TableSet} {n a : ℕ} {ps : List ℕ} (ix : Indexe
   unfolding tabledAt tabled isMonitored variableOf
   tabled-is v l = rw (variable-is ix v l, places-have ws (variablesTo ws ps n) z.tables ps ix.tables-are v (omega (arith, ix.few)))
 
-  starts_is : (v : ℕ) → v < n → startsAtZeroAt ws ps v ≡ startsAtZero z v
+  starts-is : (v : ℕ) → v < n → startsAtZeroAt ws ps v ≡ startsAtZero z v
   unfolding startsAtZeroAt startsAtZero
-  starts_is v l =
-      rw (held-is ix v l) (ap (λ (k : ℕ). demand (is_held (source z v) || eqb k 0) 7 (v ∷ [])) (initial-is ix v l))
+  starts-is v l =
+      rw (held-is ix v l) (ap (λ (k : ℕ). demand (isHeld (source z v) || eqb k 0) 7 (v ∷ [])) (initial-is ix v l))
 
   few-is : (v : ℕ) → v < n → fewStatesAt ws ps v ≡ fewStates z v
   unfolding fewStatesAt fewStates
-  few-is v l = rw (weight_is ix (suc v) l)
+  few-is v l = rw (weight-is ix (suc v) l)
 
   typed-is : readTyped ws ≡ (typedAt ws ps n >>= λ _. ok z)
   unfolding readTyped typedAt
@@ -53,7 +53,7 @@ module _ {ws : List ℕ} {z : TableSet} {n a : ℕ} {ps : List ℕ} (ix : Indexe
         ix.words-read,
         count-is ix,
         every-same (tabledAt ws ps) (tabled z) n tabled-is,
-        every-same (startsAtZeroAt ws ps) (startsAtZero z) n starts_is,
+        every-same (startsAtZeroAt ws ps) (startsAtZero z) n starts-is,
         every-same (fewStatesAt ws ps) (fewStates z) n few-is,
       )
       (assoc (every (tabled z) n) (every (startsAtZero z) n) (every (fewStates z) n))
@@ -76,9 +76,9 @@ module _ (ws ps : List ℕ) (r : Words) (h : ReadAs ws r ps) where
   unfolding ReadAs
   read-few n a e = (rw e at h).1.few
 
-  pub typed_wrong : (us : List ℕ) (k i : ℕ) → r ≡ D.Wrong k i → TypedAs ws (T.Refused k i) ps us
+  pub typed-wrong : (us : List ℕ) (k i : ℕ) → r ≡ D.Wrong k i → TypedAs ws (T.Refused k i) ps us
   unfolding ReadAs TypedAs readTyped
-  typed_wrong us k i e = rw (rw e at h)
+  typed-wrong us k i e = rw (rw e at h)
 
   module _ (n a : ℕ) (er : r ≡ D.Read n a) (us : List ℕ) (q : Counted) (hq : CountedAs ws ps n (typedAt ws ps n) q us) where
     pub typed-refused : (k v : ℕ) → q ≡ C.Refused k v → TypedAs ws (T.Refused k v) ps us
@@ -100,7 +100,7 @@ module _ (ws ps : List ℕ) (r : Words) (h : ReadAs ws r ps) where
             indexed = ix;
             places-long = rw e₀ at el;
             weights-long = k.1.long;
-            weights-are = λ v l. k.1.weights v l ∙ weight_is ix v (omega arith);
-            states-are = rw (count-is ix) (k.1.states ∙ weight_is ix n (omega arith));
+            weights-are = λ v l. k.1.weights v l ∙ weight-is ix v (omega arith);
+            states-are = rw (count-is ix) (k.1.states ∙ weight-is ix n (omega arith));
           },
         )

@@ -13,7 +13,7 @@ use Rattle.word.specs.Limits as Max
 use Rattle.meaning.specs.Answers.{Parse, fine, stop, ◌>>>◌, if◌then◌else◌}
 use Rattle.meaning.specs.Searches.{mem, within}
 use Rattle.meaning.specs.Syntax.{Condition, Event, Variable, Row, Table, condition-table}
-use Rattle.meaning.specs.Reading.{Read, word, fits, tableOk, tableFits, body_of, eventTableBy, word_at, readCondition, readEvent, readRows, read_body, readTable}
+use Rattle.meaning.specs.Reading.{Read, word, fits, tableOk, tableFits, bodyOf, eventTableBy, wordAt, readCondition, readEvent, readRows, readBody, readTable}
 use Rattle.theory.specs.Tests.{and-true, ltb-true}
 use Rattle.theory.specs.Loops.{left}
 use Rattle.index.specs.declared.Reached.{Reached}
@@ -21,7 +21,7 @@ use Rattle.index.specs.declared.Reached.TheVariants.{Next, Refused}
 use Rattle.index.specs.Places.{reach, told, place-count, variablesTo}
 use Rattle.index.proofs.Laws.{variables-length, variables-kept}
 use Rattle.reader.specs.Formulas.{faultOf, rowsReach}
-use Rattle.reader.specs.Tables.{is_placed, readPlaces}
+use Rattle.reader.specs.Tables.{isPlaced, readPlaces}
 use Rattle.reader.proofs.TestLaws.{kind-past}
 use Rattle.reader.proofs.Answers.{made-reach, refused-not-next}
 use Rattle.reader.proofs.Faults.{tested, tested-refused, tested-passed, word-then}
@@ -35,13 +35,13 @@ module _ (ws : List ℕ) (vs : List Variable) (w i : ℕ) where
   eventRows = readRows ws vs (readEvent ws vs Max.max-depth) (W.defined w) (W.class-read w) Max.max-rows i
 
   abbrev pub conditionTable : Read Table
-  conditionTable = conditionRows >>> λ r. fine (condition-table (body_of w r.0), r.1)
+  conditionTable = conditionRows >>> λ r. fine (condition-table (bodyOf w r.0), r.1)
 
   abbrev pub eventTable : Read Table
-  eventTable = eventRows >>> λ r. fine (eventTableBy (eqb (W.sort w) 1) (body_of w r.0), r.1)
+  eventTable = eventRows >>> λ r. fine (eventTableBy (eqb (W.sort w) 1) (bodyOf w r.0), r.1)
 
-  body-reach : rowsReach ws vs (W.sort w) (W.defined w) (W.class-read w) Max.max-rows i ≡ reach (read_body ws vs w i)
-  unfolding read_body rowsReach
+  body-reach : rowsReach ws vs (W.sort w) (W.defined w) (W.class-read w) Max.max-rows i ≡ reach (readBody ws vs w i)
+  unfolding readBody rowsReach
   body-reach = go (eqb (W.sort w) 3)
     where
       go : (b : Bool)
@@ -53,7 +53,7 @@ module _ (ws : List ℕ) (vs : List Variable) (w i : ℕ) where
 module _ (ws : List ℕ) (vs : List Variable) (at : ℕ) (taken : Bool) where
   table-tested : reach (readTable ws vs at taken)
       ≡ reach (tested (fits (2 ∷ []) (word ws at)) true (tableOk vs (word ws at)) (tableFits vs (word ws at) && not taken) at
-      (read_body ws vs (word ws at) (suc at)))
+      (readBody ws vs (word ws at) (suc at)))
   unfolding readTable
   table-tested = ap reach (word-then ws (2 ∷ []) at _)
 
@@ -61,7 +61,7 @@ module _ (ws : List ℕ) (vs : List Variable) (at : ℕ) (taken : Bool) where
     table-refused : (k ≡ 0 → ⊥) → Refused k at ≡ reach (readTable ws vs at taken)
     table-refused nz = tested-refused _ _ _ _ k at _ ek nz ∙ sym table-tested
 
-    table-passed : k ≡ 0 → reach (read_body ws vs (word ws at) (suc at)) ≡ reach (readTable ws vs at taken)
+    table-passed : k ≡ 0 → reach (readBody ws vs (word ws at) (suc at)) ≡ reach (readTable ws vs at taken)
     table-passed z = tested-passed _ _ _ _ k at _ ek z ∙ sym table-tested
 
 not-not : (a : Bool) → not (not a) ≡ a
@@ -69,27 +69,27 @@ not-not true = refl
 not-not false = refl
 
 module _ (ws : List ℕ) (vs : List Variable) (at : ℕ) (ps : List ℕ) where
-  pub table-past : length ws ≤ at → Refused 2 at ≡ reach (readTable ws vs at (is_placed ps (W.defined (word ws at))))
+  pub table-past : length ws ≤ at → Refused 2 at ≡ reach (readTable ws vs at (isPlaced ps (W.defined (word ws at))))
   unfolding fits mem faultOf
   table-past h = table-refused ws vs at _ 2 (rw (kind-past ws at h)) (λ e. (let z : ⊥ = omega arith in z))
 
   module _ (w v p k : ℕ) (f b s : Bool) (ew : w ≡ word ws at) (ef : f ≡ fits (2 ∷ []) w) (eb : b ≡ tableOk vs (word ws at))
       (es : s ≡ tableFits vs (word ws at)) (ev : v ≡ W.defined w) (ep : p ≡ get_or ps v 0) (ek : k ≡ faultOf f true b (s && eqb p 0)) where
     found : k ≡ faultOf (fits (2 ∷ []) (word ws at)) true (tableOk vs (word ws at))
-        (tableFits vs (word ws at) && not (is_placed ps (W.defined (word ws at))))
-    unfolding is_placed
+        (tableFits vs (word ws at) && not (isPlaced ps (W.defined (word ws at))))
+    unfolding isPlaced
     found = rw (not-not (eqb (get_or ps (W.defined (word ws at)) 0) 0), ← eb, ← es, ← ew, ← ev, ← ep, ← ef) ek
 
-    pub table-fault : (k ≡ 0 → ⊥) → Refused k at ≡ reach (readTable ws vs at (is_placed ps (W.defined (word ws at))))
+    pub table-fault : (k ≡ 0 → ⊥) → Refused k at ≡ reach (readTable ws vs at (isPlaced ps (W.defined (word ws at))))
     table-fault nz = table-refused ws vs at _ k found nz
 
-    pub table_on : (t m : ℕ) (r : Reached) → k ≡ 0 → t ≡ W.sort w → m ≡ W.class-read w
+    pub table-on : (t m : ℕ) (r : Reached) → k ≡ 0 → t ≡ W.sort w → m ≡ W.class-read w
         → r ≡ rowsReach ws vs t v m Max.max-rows (at + 1)
-        → r ≡ reach (readTable ws vs at (is_placed ps (W.defined (word ws at))))
-    table_on t m r z et em er =
+        → r ≡ reach (readTable ws vs at (isPlaced ps (W.defined (word ws at))))
+    table-on t m r z et em er =
         er ∙ rw (et, ev, em, ew, add-one at) (body-reach ws vs (word ws at) (suc at)) ∙ table-passed ws vs at _ k found z
 
-pub ruleset table-laws = (table-past, table-fault, table_on)
+pub ruleset table-laws = (table-past, table-fault, table-on)
 
 -- ---- a table that was read is of a variable that is there
 pub defined-below : (vs : List Variable) (w : ℕ) → tableOk vs w ≡ true → W.defined w < length vs
@@ -101,25 +101,25 @@ defined-below vs w e =
 module _ (ws : List ℕ) (vs : List Variable) (at : ℕ) (taken : Bool) (j : ℕ) where
   not-in-range : (f b : Bool) → fits (2 ∷ []) (word ws at) ≡ f → tableOk vs (word ws at) ≡ b
       → reach (readTable ws vs at taken) ≡ Next j → b ≡ true
-  unfolding readTable word_at reach
+  unfolding readTable wordAt reach
   not-in-range f true e r h = refl
   not-in-range true false e r h = absurd (refused-not-next (rw (e, r) at h))
   not-in-range false false e r h = absurd (refused-not-next (rw e at h))
 
-  table_below : reach (readTable ws vs at taken) ≡ Next j → W.defined (word ws at) < length vs
-  table_below h = defined-below vs (word ws at) (not-in-range _ _ refl refl h)
+  table-below : reach (readTable ws vs at taken) ≡ Next j → W.defined (word ws at) < length vs
+  table-below h = defined-below vs (word ws at) (not-in-range _ _ refl refl h)
 
-pub store_in : (ws ps : List ℕ) (n on w v j : ℕ) (a : Reached) → w ≡ word ws on → v ≡ W.defined w
-    → a ≡ reach (readTable ws (variablesTo ws ps n) on (is_placed ps (W.defined (word ws on)))) → a ≡ Next j
+pub store-in : (ws ps : List ℕ) (n on w v j : ℕ) (a : Reached) → w ≡ word ws on → v ≡ W.defined w
+    → a ≡ reach (readTable ws (variablesTo ws ps n) on (isPlaced ps (W.defined (word ws on)))) → a ≡ Next j
     → n ≤ Max.max-variables → v < Max.max-variables
-store_in ws ps n on w v j a ew ev ea e h =
-    let b : W.defined (word ws on) < n = rw (variables-length ws ps n) at (table_below ws (variablesTo ws ps n) on _ j (sym ea ∙ e)) in
+store-in ws ps n on w v j a ew ev ea e h =
+    let b : W.defined (word ws on) < n = rw (variables-length ws ps n) at (table-below ws (variablesTo ws ps n) on _ j (sym ea ∙ e)) in
     rw (ev, ew) (omega arith)
 
 pub store-fits : (ws ps : List ℕ) (n on w v j : ℕ) (a : Reached) → w ≡ word ws on → v ≡ W.defined w
-    → a ≡ reach (readTable ws (variablesTo ws ps n) on (is_placed ps (W.defined (word ws on)))) → a ≡ Next j
+    → a ≡ reach (readTable ws (variablesTo ws ps n) on (isPlaced ps (W.defined (word ws on)))) → a ≡ Next j
     → n ≤ Max.max-variables → length ps ≡ place-count → v < length ps
-store-fits ws ps n on w v j a ew ev ea e h l = let b = store_in ws ps n on w v j a ew ev ea e h in rw l (omega arith)
+store-fits ws ps n on w v j a ew ev ea e h l = let b = store-in ws ps n on w v j a ew ev ea e h in rw l (omega arith)
 
 -- ---- the tables: what is left to read from here is the whole reading
 abbrev onReach : {A : Type 0} → Reached → (ℕ → Parse A) → Parse A
@@ -138,17 +138,17 @@ module _ (ws : List ℕ) (vs : List Variable) where
   tables-ended zero on ps e = rw e
   tables-ended (suc l) on ps e = rw e
 
-  tables_step : (l on : ℕ) (ps : List ℕ) → eqb (W.kind (word ws on)) 2 ≡ true
+  tables-step : (l on : ℕ) (ps : List ℕ) → eqb (W.kind (word ws on)) 2 ≡ true
       → readPlaces ws vs (suc l) on ps
-      ≡ onReach (reach (readTable ws vs on (is_placed ps (W.defined (word ws on)))))
+      ≡ onReach (reach (readTable ws vs on (isPlaced ps (W.defined (word ws on)))))
       (λ j. readPlaces ws vs l j (set ps (W.defined (word ws on)) (suc on)))
   unfolding readPlaces
-  tables_step l on ps e = rw e (bind-reach (readTable ws vs on (is_placed ps (W.defined (word ws on)))) _ _ (λ p. refl))
+  tables-step l on ps e = rw e (bind-reach (readTable ws vs on (isPlaced ps (W.defined (word ws on)))) _ _ (λ p. refl))
 
   tables-last : (on : ℕ) (ps : List ℕ) → eqb (W.kind (word ws on)) 2 ≡ true
-      → readPlaces ws vs 0 on ps ≡ onReach (reach (readTable ws vs on (is_placed ps (W.defined (word ws on))))) (λ j. stop 5 on)
+      → readPlaces ws vs 0 on ps ≡ onReach (reach (readTable ws vs on (isPlaced ps (W.defined (word ws on))))) (λ j. stop 5 on)
   unfolding readPlaces
-  tables-last on ps e = rw e (bind-reach (readTable ws vs on (is_placed ps (W.defined (word ws on)))) _ _ (λ p. refl))
+  tables-last on ps e = rw e (bind-reach (readTable ws vs on (isPlaced ps (W.defined (word ws on)))) _ _ (λ p. refl))
 
 -- p₀ are the places where the reading of tables began
 module _ (ws p₀ ps : List ℕ) (n i on : ℕ) (all : Read (List ℕ)) (inv : readPlaces ws (variablesTo ws p₀ n) (n - i) on ps ≡ all) where
@@ -157,16 +157,16 @@ module _ (ws p₀ ps : List ℕ) (n i on : ℕ) (all : Read (List ℕ)) (inv : r
   tables-past h = sym (tables-ended ws (variablesTo ws p₀ n) (n - i) on ps (rw (kind-past ws on h))) ∙ inv
 
   module _ (w k : ℕ) (ew : w ≡ word ws on) (ek : k ≡ W.kind w) where
-    pub tables_end : (k ≡ 2 → ⊥) → told (Next on) ps ≡ all
+    pub tables-end : (k ≡ 2 → ⊥) → told (Next on) ps ≡ all
     unfolding told
-    tables_end nk = sym (tables-ended ws (variablesTo ws p₀ n) (n - i) on ps (rw (← ew, ← ek) (ne_eqb k 2 nk))) ∙ inv
+    tables-end nk = sym (tables-ended ws (variablesTo ws p₀ n) (n - i) on ps (rw (← ew, ← ek) (ne_eqb k 2 nk))) ∙ inv
 
     module _ (e2 : k ≡ 2) (a : Reached) (kept : variablesTo ws ps n ≡ variablesTo ws p₀ n)
-        (ea : a ≡ reach (readTable ws (variablesTo ws ps n) on (is_placed ps (W.defined (word ws on))))) where
+        (ea : a ≡ reach (readTable ws (variablesTo ws ps n) on (isPlaced ps (W.defined (word ws on))))) where
       turn : i < n → onReach a (λ j. readPlaces ws (variablesTo ws p₀ n) (n - (i + 1)) j (set ps (W.defined (word ws on)) (suc on))) ≡ all
       turn h =
           rw (ea, kept)
-          (sym (tables_step ws (variablesTo ws p₀ n) (n - (i + 1)) on ps (rw (← ew, ← ek) (eq-eqb k 2 e2))) ∙ (rw (left n i h) at inv))
+          (sym (tables-step ws (variablesTo ws p₀ n) (n - (i + 1)) on ps (rw (← ew, ← ek) (eq-eqb k 2 e2))) ∙ (rw (left n i h) at inv))
 
       last : n ≤ i → onReach a (λ j. stop 5 on) ≡ all
       last h =
@@ -191,8 +191,8 @@ module _ (ws p₀ ps : List ℕ) (n i on : ℕ) (all : Read (List ℕ)) (inv : r
 
 -- the place of a table is no place of a word
 pub tables-kept : (ws p₀ ps : List ℕ) (n on w v j x : ℕ) (a : Reached) → w ≡ word ws on → v ≡ W.defined w
-    → a ≡ reach (readTable ws (variablesTo ws ps n) on (is_placed ps (W.defined (word ws on)))) → a ≡ Next j
+    → a ≡ reach (readTable ws (variablesTo ws ps n) on (isPlaced ps (W.defined (word ws on)))) → a ≡ Next j
     → n ≤ Max.max-variables → variablesTo ws ps n ≡ variablesTo ws p₀ n
     → variablesTo ws (set ps v x) n ≡ variablesTo ws p₀ n
 tables-kept ws p₀ ps n on w v j x a ew ev ea e h kept =
-    variables-kept ws ps n v x (store_in ws ps n on w v j a ew ev ea e h) ∙ kept
+    variables-kept ws ps n v x (store-in ws ps n on w v j a ew ev ea e h) ∙ kept

@@ -10,9 +10,9 @@ use Rattle.word.specs.Fields as W
 use Rattle.word.specs.Limits as Max
 use Rattle.meaning.specs.Searches.{mem, within}
 use Rattle.meaning.specs.Lookup.{variableAt}
-use Rattle.meaning.specs.Reading.{word, fits, conditionKinds, eventKinds, variableOk, testOk, row_ok, tableOk, tableFits}
+use Rattle.meaning.specs.Reading.{word, fits, conditionKinds, eventKinds, variableOk, testOk, rowOk, tableOk, tableFits}
 use Rattle.index.specs.Places.{variablesTo}
-use Rattle.index.proofs.Laws.{past_end, variables-length}
+use Rattle.index.proofs.Laws.{past-end, variables-length}
 
 module _ (w k : ℕ) (clear : Bool) (ek : k ≡ W.kind w) (ec : clear ≡ W.spare-clear w) where
   pub one-kind : (kind : ℕ) → (eqb k kind && clear) ≡ fits (kind ∷ []) w
@@ -30,7 +30,7 @@ module _ (w k : ℕ) (clear : Bool) (ek : k ≡ W.kind w) (ec : clear ≡ W.spar
 -- past the end stands 0, whose kind is 0
 pub kind-past : (ws : List ℕ) (i : ℕ) → length ws ≤ i → W.kind (word ws i) ≡ 0
 unfolding W.kind
-kind-past ws i h = rw (← past_end ws i h)
+kind-past ws i h = rw (← past-end ws i h)
 
 pub variable-fields : (w class n first : ℕ) (known sized : Bool) → class ≡ W.sort w → n ≡ W.size w → first ≡ W.initial w
     → known ≡ within 1 4 class → sized ≡ within Max.min-size Max.max-size n
@@ -39,16 +39,16 @@ unfolding variableOk
 variable-fields w class n first known sized ec en ef ek es = rw (ek, es, ec, en, ef)
 
 module _ (ws ps : List ℕ) (n w : ℕ) where
-  pub test_fields : (v how k values : ℕ) → v ≡ W.variable w → how ≡ W.relation w → k ≡ W.value w
+  pub test-fields : (v how k values : ℕ) → v ≡ W.variable w → how ≡ W.relation w → k ≡ W.value w
       → values ≡ (variableAt (variablesTo ws ps n) v).size
       → ((ltb v n && leb how 1) && ltb k values) ≡ testOk (variablesTo ws ps n) w
   unfolding testOk
-  test_fields v how k values ev eh ek es = rw (variables-length ws ps n, es, ev, eh, ek)
+  test-fields v how k values ev eh ek es = rw (variables-length ws ps n, es, ev, eh, ek)
 
   pub row-fields : (v m r k modes values : ℕ) → r ≡ W.mode w → k ≡ W.value w
       → modes ≡ (variableAt (variablesTo ws ps n) m).size → values ≡ (variableAt (variablesTo ws ps n) v).size
-      → ((eqb r Max.any || (not (eqb m Max.any) && ltb r modes)) && ltb k values) ≡ row_ok (variablesTo ws ps n) v m w
-  unfolding row_ok
+      → ((eqb r Max.any || (not (eqb m Max.any) && ltb r modes)) && ltb k values) ≡ rowOk (variablesTo ws ps n) v m w
+  unfolding rowOk
   row-fields v m r k modes values er ek em ev = rw (er, ek, em, ev)
 
 module _ (ws ps : List ℕ) (n at w t v m : ℕ) (ew : w ≡ word ws at) (et : t ≡ W.sort w) (ev : v ≡ W.defined w) (em : m ≡ W.class-read w) where

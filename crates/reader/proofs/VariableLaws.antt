@@ -15,7 +15,7 @@ use Rattle.meaning.specs.Answers.{fine, stop}
 use Rattle.meaning.specs.Syntax.{Variable}
 use Rattle.meaning.specs.Reading.{word, variableOk, readVariables}
 use Rattle.theory.specs.Loops.{left}
-use Rattle.index.specs.Places.{place-count, head_of, variablesTo}
+use Rattle.index.specs.Places.{place-count, headOf, variablesTo}
 use Rattle.index.proofs.Laws.{variables-same}
 use Rattle.reader.specs.declared.Words.TheVariants.{Read, Wrong}
 use Rattle.reader.specs.Variables.{NoTables, VariablesAs}
@@ -35,12 +35,12 @@ no-tables-on ps i x h v l = get_or-set_other ps (Max.max-variables + i) v x 0 (�
 
 -- the place of variable i's word is written, that of those before is not seen
 module _ (ws ps : List ℕ) (i : ℕ) (h : i < Max.max-variables) (len : length ps ≡ place-count) where
-  head-written : head_of (set ps (Max.max-variables + i) i) i ≡ i
-  unfolding head_of
+  head-written : headOf (set ps (Max.max-variables + i) i) i ≡ i
+  unfolding headOf
   head-written = get_or-set_same ps (Max.max-variables + i) i 0 (rw len (omega arith))
 
   heads-before : variablesTo ws (set ps (Max.max-variables + i) i) i ≡ variablesTo ws ps i
-  unfolding head_of
+  unfolding headOf
   heads-before =
       variables-same ws (set ps (Max.max-variables + i) i) ps i
       (λ v l. get_or-set_other ps (Max.max-variables + i) (Max.max-variables + v) i 0 (λ e. (let z : ⊥ = omega arith in z)))
@@ -52,17 +52,17 @@ module _ (ws : List ℕ) where
   ended zero i vs e = rw e
   ended (suc l) i vs e = rw e
 
-  out_of_range : (l i : ℕ) (vs : List Variable) → eqb (W.kind (word ws i)) 1 ≡ true → variableOk (word ws i) ≡ false
+  out-of-range : (l i : ℕ) (vs : List Variable) → eqb (W.kind (word ws i)) 1 ≡ true → variableOk (word ws i) ≡ false
       → readVariables ws (suc l) i vs ≡ stop 3 i
   unfolding readVariables
-  out_of_range l i vs e f = rw (e, f)
+  out-of-range l i vs e f = rw (e, f)
 
-  one_more : (ps : List ℕ) (l i : ℕ) → i < Max.max-variables → length ps ≡ place-count → eqb (W.kind (word ws i)) 1 ≡ true
+  one-more : (ps : List ℕ) (l i : ℕ) → i < Max.max-variables → length ps ≡ place-count → eqb (W.kind (word ws i)) 1 ≡ true
       → variableOk (word ws i) ≡ true
       → readVariables ws (suc l) i (variablesTo ws ps i)
       ≡ readVariables ws l (suc i) (variablesTo ws (set ps (Max.max-variables + i) i) (suc i))
   unfolding readVariables variablesTo
-  one_more ps l i h len e f = rw (e, f, heads-before ws ps i h len, head-written ws ps i h len)
+  one-more ps l i h len e f = rw (e, f, heads-before ws ps i h len, head-written ws ps i h len)
 
   one-over : (i : ℕ) (vs : List Variable) → eqb (W.kind (word ws i)) 1 ≡ true → readVariables ws 0 i vs ≡ stop 4 i
   unfolding readVariables
@@ -86,14 +86,14 @@ module _ (ws : List ℕ) where
       unfolding VariablesAs
       variables-bad n =
           sym (rw (left Max.max-variables i h) at inv)
-          ∙ out_of_range (Max.max-variables - (i + 1)) i (variablesTo ws ps i) (rw (← ew, ← ek) (eq-eqb k 1 e1)) (rw (← ew, ← eb) (not-true b n))
+          ∙ out-of-range (Max.max-variables - (i + 1)) i (variablesTo ws ps i) (rw (← ew, ← ek) (eq-eqb k 1 e1)) (rw (← ew, ← eb) (not-true b n))
 
       pub variables-on : length ps ≡ place-count → not b ≡ false
           → readVariables ws (Max.max-variables - (i + 1)) (i + 1) (variablesTo ws (set ps (Max.max-variables + i) i) (i + 1))
           ≡ readVariables ws Max.max-variables 0 []
       variables-on len n =
           rw (add-one i)
-          (sym (one_more ps (Max.max-variables - suc i) i h len (rw (← ew, ← ek) (eq-eqb k 1 e1)) (rw (← ew, ← eb) (not-false b n)))
+          (sym (one-more ps (Max.max-variables - suc i) i h len (rw (← ew, ← ek) (eq-eqb k 1 e1)) (rw (← ew, ← eb) (not-false b n)))
           ∙ (rw (left Max.max-variables i h, add-one i) at inv))
 
     module _ (w k : ℕ) (most : i ≤ Max.max-variables) (all : Max.max-variables ≤ i) (ew : w ≡ word ws Max.max-variables) (ek : k ≡ W.kind w) where

@@ -10,7 +10,7 @@ use Rattle.word.specs.Limits as Max
 use Rattle.meaning.specs.Answers.{ok, fine, stop, parsed}
 use Rattle.meaning.specs.Searches.{within}
 use Rattle.meaning.specs.Syntax.{Condition, Table}
-use Rattle.meaning.specs.Reading.{read_tables, readAssertions, readWords}
+use Rattle.meaning.specs.Reading.{readTables, readAssertions, readWords}
 use Rattle.index.specs.declared.Reached.{Reached}
 use Rattle.index.specs.declared.Reached.TheVariants.{Next, Refused}
 use Rattle.index.specs.Places.{reach, told, variablesTo}
@@ -63,12 +63,12 @@ module _ (ws ps : List ℕ) where
       -- the places of the variables' words are as they were
       module _ (a : ℕ) (ea : t ≡ Next a) (s : Reached) (kept : variablesTo ws ps n ≡ variablesTo ws p₁ n)
           (es : s ≡ reach (readAssertions ws (variablesTo ws ps n) Max.max-assertions a)) where
-        stopped : (ts : List Table) (k x : ℕ) → read_tables ws (variablesTo ws p₁ n) n i [] ≡ fine (ts, a)
+        stopped : (ts : List Table) (k x : ℕ) → readTables ws (variablesTo ws p₁ n) n i [] ≡ fine (ts, a)
             → readAssertions ws (variablesTo ws ps n) Max.max-assertions a ≡ stop k x → ReadAs ws (Wrong k x) ps
         unfolding ReadAs readWords parsed
         stopped ts k x e f = rw (fit, read.variables-read, variables-length ws p₁ n, e, ← kept, f)
 
-        whole : (ts : List Table) (cs : List Condition) (j : ℕ) → read_tables ws (variablesTo ws p₁ n) n i [] ≡ fine (ts, a)
+        whole : (ts : List Table) (cs : List Condition) (j : ℕ) → readTables ws (variablesTo ws p₁ n) n i [] ≡ fine (ts, a)
             → readAssertions ws (variablesTo ws ps n) Max.max-assertions a ≡ fine (cs, j)
             → readWords ws ≡ ok (record { variables = variablesTo ws ps n; tables = ts; assertions = cs })
         unfolding readWords parsed

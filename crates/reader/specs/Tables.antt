@@ -6,18 +6,18 @@ use Rattle.meaning.specs.Syntax.{Variable}
 use Rattle.meaning.specs.Reading.{Read, word, readTable}
 
 -- has v a table, by the places so far?
-unfoldable pub is_placed : List ℕ → ℕ → Bool
-is_placed ps v = not (eqb (get_or ps v 0) 0)
+unfoldable pub isPlaced : List ℕ → ℕ → Bool
+isPlaced ps v = not (eqb (get_or ps v 0) 0)
 
 -- the places of the tables from i on, by variable: the reading of tables, with their places kept and not their rows
 module _ (ws : List ℕ) (vs : List Variable) where
   unfoldable pub readPlaces : ℕ → ℕ → List ℕ → Read (List ℕ)
   readPlaces zero i ps =
       if eqb (W.kind (word ws i)) 2
-      then (λ _. readTable ws vs i (is_placed ps (W.defined (word ws i))) >>> λ _. stop 5 i)
+      then (λ _. readTable ws vs i (isPlaced ps (W.defined (word ws i))) >>> λ _. stop 5 i)
       else (λ _. fine (ps, i))
   readPlaces (suc left) i ps =
       if eqb (W.kind (word ws i)) 2
-      then (λ _. readTable ws vs i (is_placed ps (W.defined (word ws i))) >>> λ r.
+      then (λ _. readTable ws vs i (isPlaced ps (W.defined (word ws i))) >>> λ r.
       readPlaces left r.1 (set ps (W.defined (word ws i)) (suc i)))
       else (λ _. fine (ps, i))

@@ -4,7 +4,7 @@ ghost use Rattle.word.specs.Fields as F;
 ghost use Rattle.word.specs.Limits as Max;
 ghost use Rattle.meaning.specs.Reading as R;
 ghost use Rattle.index.specs.Places.{place-count, variablesTo, reach, told};
-ghost use Rattle.reader.specs.Tables.{is_placed, readPlaces};
+ghost use Rattle.reader.specs.Tables.{isPlaced, readPlaces};
 
 use crate::rows::read_rows;
 use crate::tests::{fault, fits_kind, table_fits, table_ok};
@@ -13,7 +13,7 @@ use word::{TABLE, class_read, defined, kind, sort};
 
 // A table with its rows. `places` has, by variable, the place of the first row of each table so far, 0 for none.
 fn read_table(words: &[u32], places: &[usize], n: usize, at: usize) -> Reached
-    ensures { result ≡ reach (R.readTable words.now (variablesTo words.now places.now n) at (is_placed places.now (F.defined (R.word words.now at)))) }
+    ensures { result ≡ reach (R.readTable words.now (variablesTo words.now places.now n) at (isPlaced places.now (F.defined (R.word words.now at)))) }
 {
     if words.len() <= at {
         return Reached::Refused(2, at);

@@ -89,7 +89,7 @@ pub fn test_ok(words: &[u32], places: &[usize], n: usize, w: u32) -> bool
 
 // Are the fields of a row word in range, in the table for v that reads class m?
 pub fn row_ok(words: &[u32], places: &[usize], n: usize, v: usize, m: usize, w: u32) -> bool
-    ensures { result ≡ R.row_ok (variablesTo words.now places.now n) v m w }
+    ensures { result ≡ R.rowOk (variablesTo words.now places.now n) v m w }
 {
     let r = mode(w);
     let k = value(w);

@@ -13,14 +13,14 @@ use Rattle.word.specs.Limits as Max
 use Rattle.meaning.specs.Answers.{Outcome, ok, refuse, ◌>>=◌}
 use Rattle.meaning.specs.Syntax.{TableSet}
 use Rattle.meaning.specs.States.{stateCount, initialState, readSet}
-use Rattle.meaning.specs.Calls.{start_of}
-use Rattle.meaning.specs.Run.{Ran, run_from, runReady, ranOf, run_of}
+use Rattle.meaning.specs.Calls.{startOf}
+use Rattle.meaning.specs.Run.{Ran, runFrom, runReady, ranOf, runOf}
 use Rattle.meaning.specs.Moved.{Course}
 use Rattle.meaning.specs.Passes.{Reads, Passes}
 use Rattle.meaning.specs.Demand3.{Answered, RunsInOrder}
 use Rattle.meaning.specs.Program.{eventLines, refuseLine, endLine, runLines}
 use Rattle.theory.specs.Tests.{true-leb, true-ltb}
-use Rattle.theory.specs.Found.{ok_same}
+use Rattle.theory.specs.Found.{ok-same}
 use Rattle.theory.specs.WellRead.{read-well-formed}
 use Rattle.theory.specs.Orders.{order-exists}
 use Rattle.theory.specs.Asserting.{initial-typed}
@@ -36,12 +36,12 @@ module _ (ws : List ℕ) (z : TableSet) (passes : Passes ws z) (s : ℕ) where
   read : Reads ws z
   read = record { reads = passes.reads; order = passes.order }
 
-  set_is : readSet ws ≡ ok z
-  set_is = (reads-exactly ws z).1 read
+  set-is : readSet ws ≡ ok z
+  set-is = (reads-exactly ws z).1 read
 
-  pub start_is : ok s ≡ start_of ws → s ≡ initialState z
-  unfolding start_of
-  start_is e = ok_same (rw set_is at e)
+  pub start-is : ok s ≡ startOf ws → s ≡ initialState z
+  unfolding startOf
+  start-is e = ok-same (rw set-is at e)
 
   module _ (es : List ℕ) (from : s ≡ initialState z) where
     typed : s < stateCount z
@@ -49,11 +49,11 @@ module _ (ws : List ℕ) (z : TableSet) (passes : Passes ws z) (s : ℕ) where
 
     -- the run, its tests passed
     abbrev Whole : Ran
-    Whole = run_from z 0 s es
+    Whole = runFrom z 0 s es
 
     few-ready : length es ≤ Max.max-events → runReady ws s (length es) Max.max-events ≡ ok z
     unfolding runReady
-    few-ready few = rw (set_is, true-leb few, true-ltb typed)
+    few-ready few = rw (set-is, true-leb few, true-ltb typed)
 
     few-ran : length es ≤ Max.max-events → ranOf ws s es Max.max-events ≡ Whole
     unfolding ranOf
@@ -61,7 +61,7 @@ module _ (ws : List ℕ) (z : TableSet) (passes : Passes ws z) (s : ℕ) where
 
     many-ready : Max.max-events < length es → runReady ws s (length es) Max.max-events ≡ refuse 17 (suc Max.max-events ∷ [])
     unfolding runReady
-    many-ready h = rw (set_is, lt-leb (length es) Max.max-events h)
+    many-ready h = rw (set-is, lt-leb (length es) Max.max-events h)
 
     many-ran : Max.max-events < length es → ranOf ws s es Max.max-events ≡ record { done = []; last = refuse 17 (suc Max.max-events ∷ []) }
     unfolding ranOf
@@ -72,7 +72,7 @@ module _ (ws : List ℕ) (z : TableSet) (passes : Passes ws z) (s : ℕ) where
       counted =
           let c = (every-list-has-one-course ws z read s es typed).0 in
           let e = runs.only-course _ (subst (λ (t : ℕ). Course z t es (s ∷ Whole.done)) from c) in
-          omega (arith, ap length e, runs.one_more)
+          omega (arith, ap length e, runs.one-more)
 
       module _ (few : length es ≤ Max.max-events) (ea : answer ≡ Whole.last) (el : after ≡ sets lent 0 Whole.done) where
         told : Answered es runs.course runs.done answer
@@ -83,22 +83,22 @@ module _ (ws : List ℕ) (z : TableSet) (passes : Passes ws z) (s : ℕ) where
         few-lines =
             elim runs.ends [
               | inl p ↦
-                  let k : runs.done ≡ length es = omega (arith, p, runs.one_more) in
-                  let t = told.all_done k in
+                  let k : runs.done ≡ length es = omega (arith, p, runs.one-more) in
+                  let t = told.all-done k in
                   let f : take (length es) after ≡ Whole.done = rw el (front lent Whole.done (length es) (omega (arith, counted, k)) (omega arith)) in
                   rw (← ea, t, f) (sym (append-nil (eventLines 0 es Whole.done)))
               | inr p ↦
-                  let l : runs.done < length es = omega (arith, p.1, p.2, runs.one_more) in
+                  let l : runs.done < length es = omega (arith, p.1, p.2, runs.one-more) in
                   let t = told.not-all-done l in
                   let f : take runs.done after ≡ Whole.done = rw el (front lent Whole.done runs.done (sym counted) (omega (arith, l))) in
                   rw (← ea, t, f)
             ]
 
     -- the lines by the answer and the states written are the meaning's
-    pub ran-is : (lent after : List ℕ) (answer : Outcome ℕ) → length lent ≡ Max.max-events → answer ≡ (run_of ws s es lent 0).answer
-        → after ≡ (run_of ws s es lent 0).lent → RunsInOrder z s es lent 0 answer after
+    pub ran-is : (lent after : List ℕ) (answer : Outcome ℕ) → length lent ≡ Max.max-events → answer ≡ (runOf ws s es lent 0).answer
+        → after ≡ (runOf ws s es lent 0).lent → RunsInOrder z s es lent 0 answer after
         → ranLines es after answer ≡ runLines es (ranOf ws s es Max.max-events)
-    unfolding run_of ranLines runLines endLine doneBefore
+    unfolding runOf ranLines runLines endLine doneBefore
     ran-is lent after answer room ea el runs =
         let q : length lent - 0 ≡ Max.max-events = omega arith in
         go (rw q at ea) (rw q at el) (dec_le (length es) Max.max-events)

@@ -9,17 +9,17 @@ use lib.ListN.{set, length, length-append}
 use borrow.Author.Tests.{le-ltb, lt-ltb}
 use Rattle.meaning.specs.Program.{digitsOf, decimal}
 use Rattle.report.specs.Text.{Puts}
-use Rattle.report.proofs.Putting.{with_none, with-then, put_one}
+use Rattle.report.proofs.Putting.{with-none, with-then, put-one}
 
-digits_last : (k n : ℕ) → (k ≡ 0 → ⊥) → n < 10 → digitsOf k n ≡ (48 + n) ∷ []
+digits-last : (k n : ℕ) → (k ≡ 0 → ⊥) → n < 10 → digitsOf k n ≡ (48 + n) ∷ []
 unfolding digitsOf
-digits_last zero n z h = absurd (z refl)
-digits_last (suc k) n z h = rw (lt-ltb n 10 h)
+digits-last zero n z h = absurd (z refl)
+digits-last (suc k) n z h = rw (lt-ltb n 10 h)
 
-digits_more : (k n : ℕ) → (k ≡ 0 → ⊥) → 10 ≤ n → digitsOf k n ≡ digitsOf (k - 1) (n / 10) ++ ((48 + (n % 10)) ∷ [])
+digits-more : (k n : ℕ) → (k ≡ 0 → ⊥) → 10 ≤ n → digitsOf k n ≡ digitsOf (k - 1) (n / 10) ++ ((48 + (n % 10)) ∷ [])
 unfolding digitsOf
-digits_more zero n z h = absurd (z refl)
-digits_more (suc k) n z h = rw (le-ltb n 10 h, sub-one (suc k))
+digits-more zero n z h = absurd (z refl)
+digits-more (suc k) n z h = rw (le-ltb n 10 h, sub-one (suc k))
 
 -- ---- how many there are: a number below 10 ^ j has at most j digits
 digits-few : (k j n : ℕ) → n < 10 ^ suc j → length (digitsOf k n) ≤ suc j
@@ -43,15 +43,15 @@ decimal-few j n h = digits-few 20 j n h
 module _ (xs : List ℕ) (at n k : ℕ) where
   pub digits-none : k ≡ 0 → Puts (digitsOf k n) xs at xs at
   unfolding digitsOf
-  digits-none z = rw (z, with_none)
+  digits-none z = rw (z, with-none)
 
   pub one-digit : (k ≡ 0 → ⊥) → n < 10 → Puts (digitsOf k n) xs at (set xs at (48 + n)) (at + 1)
-  one-digit z h = rw (digits_last k n z h) (put_one xs at (48 + n))
+  one-digit z h = rw (digits-last k n z h) (put-one xs at (48 + n))
 
   pub digit-after : (ys : List ℕ) (on : ℕ) → (k ≡ 0 → ⊥) → 10 ≤ n → Puts (digitsOf (k - 1) (n / 10)) xs at ys on
       → Puts (digitsOf k n) xs at (set ys on (48 + n % 10)) (on + 1)
-  digit-after ys on z h e = rw (digits_more k n z h, put_one, e, with-then)
+  digit-after ys on z h e = rw (digits-more k n z h, put-one, e, with-then)
 
-  pub number_put : (ys : List ℕ) (r : ℕ) → Puts (digitsOf 20 n) xs at ys r → Puts (decimal n) xs at ys r
+  pub number-put : (ys : List ℕ) (r : ℕ) → Puts (digitsOf 20 n) xs at ys r → Puts (decimal n) xs at ys r
   unfolding decimal
-  number_put ys r e = e
+  number-put ys r e = e

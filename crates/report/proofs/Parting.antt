@@ -13,7 +13,7 @@ use Rattle.word.specs.Fields as W
 use Rattle.meaning.specs.Searches.{least}
 use Rattle.meaning.specs.Reading.{word}
 use Rattle.meaning.specs.Program.{firstEvent}
-use Rattle.theory.specs.Found.{least_on, least-found, least-none}
+use Rattle.theory.specs.Found.{least-on, least-found, least-none}
 use Rattle.report.specs.Input.{isEvent}
 
 pub is-event-is : (ws : List ℕ) (i w k : ℕ) → w ≡ word ws i → k ≡ W.kind w → eqb k 11 ≡ isEvent ws i
@@ -26,7 +26,7 @@ module _ (ws : List ℕ) (i : ℕ) (inv : least (isEvent ws) i ≡ none) where
   event-here b h eb t = sym (least-found (isEvent ws) (length ws) i h inv (sym eb ∙ t))
 
   pub event-on : (b : Bool) → b ≡ isEvent ws i → b ≡ false → least (isEvent ws) (i + 1) ≡ none
-  event-on b eb t = least_on (isEvent ws) i inv (sym eb ∙ t)
+  event-on b eb t = least-on (isEvent ws) i inv (sym eb ∙ t)
 
   pub event-none : i ≤ length ws → length ws ≤ i → length ws ≡ firstEvent ws
   unfolding firstEvent isEvent

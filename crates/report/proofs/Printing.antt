@@ -19,12 +19,12 @@ use Rattle.scr.specs.Telling.{Tells}
 use Rattle.report.specs.Text.{buffer, ◌with◌, Puts}
 use Rattle.report.specs.Lines.{countsOf}
 use Rattle.report.specs.Room as Room
-use Rattle.report.proofs.Putting.{with_none, with-then, puts-place}
+use Rattle.report.proofs.Putting.{with-none, with-then, puts-place}
 use Rattle.report.proofs.Numbers.{decimal-few}
 
 -- ---- a name
 pub name-none : (name xs : List ℕ) (at : ℕ) → Puts (take 0 name) xs at xs at
-name-none name xs at = rw with_none
+name-none name xs at = rw with-none
 
 pub name-on : (name xs ys zs : List ℕ) (at on r i : ℕ) → i < length name → Puts (take i name) xs at ys on → Puts (get_or name i 0 ∷ []) ys on zs r
     → Puts (take (i + 1) name) xs at zs r
@@ -34,8 +34,8 @@ pub name-all : (name xs ys : List ℕ) (at on i : ℕ) → length name ≤ i →
 name-all name xs ys at on i h e = rw (take_all i name h) at e
 
 -- ---- fields
-pub field_put : (xs ys zs : List ℕ) (at on r n : ℕ) → Puts (32 ∷ []) xs at ys on → Puts (decimal n) ys on zs r → Puts (32 ∷ decimal n) xs at zs r
-field_put xs ys zs at on r n e q = rw (q, e, with-then)
+pub field-put : (xs ys zs : List ℕ) (at on r n : ℕ) → Puts (32 ∷ []) xs at ys on → Puts (decimal n) ys on zs r → Puts (32 ∷ decimal n) xs at zs r
+field-put xs ys zs at on r n e q = rw (q, e, with-then)
 
 module _ (ns xs ys : List ℕ) (at on i : ℕ) (inv : buffer ys on with fields (drop i ns) ≡ buffer xs at with fields ns) where
   pub fields-on : (zs : List ℕ) (r : ℕ) → i < length ns → Puts (32 ∷ decimal (get_or ns i 0)) ys on zs r
@@ -84,4 +84,4 @@ module _ (es ss xs ys : List ℕ) (at on i : ℕ) (inv : buffer ys on with event
 
   pub events-end : length ss ≤ i → Puts (eventLines 0 es ss) xs at ys on
   unfolding eventLines
-  events-end h = sym (with_none (buffer ys on)) ∙ (rw (drop_of_length-le ss h) at inv)
+  events-end h = sym (with-none (buffer ys on)) ∙ (rw (drop_of_length-le ss h) at inv)

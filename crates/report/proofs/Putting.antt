@@ -8,20 +8,20 @@ use lib.Seq.{sets}
 use Rattle.report.specs.Text.{Buffer, buffer, ◌with◌, Puts}
 
 -- ---- none, one byte, one text after another
-pub with_none : (p : Buffer) → p with [] ≡ p
+pub with-none : (p : Buffer) → p with [] ≡ p
 unfolding ◌with◌
-with_none (buffer xs at) = rw add-zero
+with-none (buffer xs at) = rw add-zero
 
-pub put_one : (xs : List ℕ) (at b : ℕ) → Puts (b ∷ []) xs at (set xs at b) (at + 1)
+pub put-one : (xs : List ℕ) (at b : ℕ) → Puts (b ∷ []) xs at (set xs at b) (at + 1)
 unfolding ◌with◌
-put_one xs at b = refl
+put-one xs at b = refl
 
 with-more : (xs text : List ℕ) (at b : ℕ) → buffer xs at with (b ∷ text) ≡ buffer (set xs at b) (suc at) with text
 unfolding ◌with◌
 with-more xs text at b = rw (add-suc at (length text), suc-add at (length text))
 
 pub with-then : (p : Buffer) (a b : List ℕ) → p with a with b ≡ p with (a ++ b)
-with-then p [] b = rw (with_none p)
+with-then p [] b = rw (with-none p)
 with-then (buffer xs at) (x ∷ a) b = rw (with-more xs a at x, with-more xs (a ++ b) at x) (with-then (buffer (set xs at x) (suc at)) a b)
 
 -- ---- the bytes and the place

@@ -6,9 +6,9 @@ use native.Mathlib.Omega.{arith}
 use native.Mathlib.Nat.{sub-zero, zero-add}
 use lib.ListN.{length, take, drop, length-drop}
 use lib.Seq.{sets, take_all}
-use Rattle.meaning.specs.Calls.{start_of}
+use Rattle.meaning.specs.Calls.{startOf}
 use Rattle.meaning.specs.Check.{checkOf}
-use Rattle.meaning.specs.Program.{inputWords, firstEvent, passLine, refuseLine, runFromStart, printed, program_of}
+use Rattle.meaning.specs.Program.{inputWords, firstEvent, passLine, refuseLine, runFromStart, printed, programOf}
 use Rattle.scr.specs.declared.Counts.{Counts}
 use Rattle.scr.specs.declared.Refusal.{Refusal}
 use Rattle.scr.specs.declared.Verdict.{Verdict}
@@ -28,7 +28,7 @@ pass-passed ws v c e d = let p = (d.passes (countsOf c)).0 (rw e) in (p.0, p.1)
 
 module _ (ws es : List ℕ) (v : Verdict) (ev : verdictSays v ≡ checkOf ws) where
   pub set-passed : (xs ys zs : List ℕ) (at r : ℕ) (c : Counts) → v ≡ Verdicts.Pass c → Puts (passLine (countsOf c)) xs 0 ys at
-      → Puts (runFromStart ws es (start_of ws)) ys at zs r → Puts (printed ws es (checkOf ws)) xs 0 zs r
+      → Puts (runFromStart ws es (startOf ws)) ys at zs r → Puts (printed ws es (checkOf ws)) xs 0 zs r
   unfolding printed verdictSays
   set-passed xs ys zs at r c e h w = let o = rw e at ev in rw (← o, w, h, with-then)
 
@@ -48,12 +48,12 @@ words-put ws xs ys k r ek h =
 
 -- ---- all of it
 module _ (bs ws xs ys : List ℕ) (n r : ℕ) (e : take n ws ≡ inputWords bs) (h : Puts (printedOf (take (n - 0) (drop 0 ws))) xs 0 ys r) where
-  whole : Puts (program_of bs) xs 0 ys r
-  unfolding program_of printedOf
+  whole : Puts (programOf bs) xs 0 ys r
+  unfolding programOf printedOf
   whole = rw (sub-zero n, e) at h
 
-  pub reported : ys ≡ sets xs 0 (program_of bs)
-  reported = puts-bytes xs ys (program_of bs) 0 r whole
+  pub reported : ys ≡ sets xs 0 (programOf bs)
+  reported = puts-bytes xs ys (programOf bs) 0 r whole
 
-  pub counted : r ≡ length (program_of bs)
-  counted = puts-place xs ys (program_of bs) 0 r whole ∙ zero-add (length (program_of bs))
+  pub counted : r ≡ length (programOf bs)
+  counted = puts-place xs ys (programOf bs) 0 r whole ∙ zero-add (length (programOf bs))

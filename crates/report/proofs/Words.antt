@@ -8,7 +8,7 @@ use lib.ListN.{length, get_or, take, set}
 use lib.Seq.{take-suc-set}
 use borrow.Author.Tests.{le-leb, lt-leb}
 use Rattle.word.specs.Limits as Max
-use Rattle.meaning.specs.Searches.{list_of}
+use Rattle.meaning.specs.Searches.{listOf}
 use Rattle.meaning.specs.Host.{wordOfBytes}
 use Rattle.meaning.specs.Program.{inputWord, inputWords}
 use Rattle.report.specs.Input.{wordCount}
@@ -26,18 +26,18 @@ module _ (bs : List ℕ) (i : ℕ) where
   word-whole r h e = rw (le-leb (i * 4 + 4) (length bs) h) e
 
 -- ---- all of them
-pub filled_none : (bs ws : List ℕ) → take 0 ws ≡ list_of (inputWord bs) 0
-unfolding list_of
-filled_none bs ws = refl
+pub filled-none : (bs ws : List ℕ) → take 0 ws ≡ listOf (inputWord bs) 0
+unfolding listOf
+filled-none bs ws = refl
 
-pub filled_on : (bs ws : List ℕ) (i r m n : ℕ) → i < n → n ≤ Max.max-input-words → length ws ≡ m → m ≡ Max.max-input-words → r ≡ inputWord bs i → take i ws ≡ list_of (inputWord bs) i
-    → take (i + 1) (set ws i r) ≡ list_of (inputWord bs) (i + 1)
-unfolding list_of
-filled_on bs ws i r m n h few len room er e =
+pub filled-on : (bs ws : List ℕ) (i r m n : ℕ) → i < n → n ≤ Max.max-input-words → length ws ≡ m → m ≡ Max.max-input-words → r ≡ inputWord bs i → take i ws ≡ listOf (inputWord bs) i
+    → take (i + 1) (set ws i r) ≡ listOf (inputWord bs) (i + 1)
+unfolding listOf
+filled-on bs ws i r m n h few len room er e =
     let h' : i < length ws = omega arith in
     rw (add-one i, take-suc-set ws i r h', e, er)
 
-pub filled-all : (bs ws : List ℕ) (i n : ℕ) → i ≤ n → n ≤ i → n ≡ wordCount (length bs) → take i ws ≡ list_of (inputWord bs) i
+pub filled-all : (bs ws : List ℕ) (i n : ℕ) → i ≤ n → n ≤ i → n ≡ wordCount (length bs) → take i ws ≡ listOf (inputWord bs) i
     → take n ws ≡ inputWords bs
 unfolding inputWords
-filled-all bs ws i n k h en e = let q : i ≡ n = omega arith in (rw q at e) ∙ ap (list_of (inputWord bs)) en
+filled-all bs ws i n k h en e = let q : i ≡ n = omega arith in (rw q at e) ∙ ap (listOf (inputWord bs)) en

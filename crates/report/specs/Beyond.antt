@@ -4,8 +4,8 @@ use Rattle.std.proofs.Common.{arith, take_all, length-take-le, get_or-take, le-l
 use Rattle.std.proofs.Math.Decide.{dec_le}
 use Rattle.word.specs.Limits as Max
 use Rattle.meaning.specs.Host.{wordOfBytes}
-use Rattle.meaning.specs.Program.{inputWord, inputWords, program_of}
-use Rattle.theory.specs.Loops.{list_same}
+use Rattle.meaning.specs.Program.{inputWord, inputWords, programOf}
+use Rattle.theory.specs.Loops.{list-same}
 use Rattle.theory.specs.Numbers.{length-listOf}
 
 -- "the first 8,192 only": so many words there are
@@ -18,9 +18,9 @@ abbrev pub max-input : ℕ
 max-input = Max.max-input-words * 4
 
 -- a word that ends within the first m bytes
-word_same : (bs : List ℕ) (m i : ℕ) → i * 4 + 4 ≤ m → m ≤ length bs → inputWord (take m bs) i ≡ inputWord bs i
+word-same : (bs : List ℕ) (m i : ℕ) → i * 4 + 4 ≤ m → m ≤ length bs → inputWord (take m bs) i ≡ inputWord bs i
 unfolding inputWord wordOfBytes
-word_same bs m i h l =
+word-same bs m i h l =
     let a : i * 4 + 4 ≤ length (take m bs) = omega (arith, length-take-le m bs l) in
     let b : i * 4 + 4 ≤ length bs = omega arith in
     rw (
@@ -32,14 +32,14 @@ word_same bs m i h l =
       get_or-take m bs (i * 4 + 3) 0 (omega arith),
     )
 
-words_same : (bs : List ℕ) (m : ℕ) → m ≡ max-input → m ≤ length bs → inputWords (take m bs) ≡ inputWords bs
+words-same : (bs : List ℕ) (m : ℕ) → m ≡ max-input → m ≤ length bs → inputWords (take m bs) ≡ inputWords bs
 unfolding inputWords
-words_same bs m e l =
+words-same bs m e l =
     let a : min Max.max-input-words ((length (take m bs) + 3) / 4) ≡ Max.max-input-words = omega (arith, length-take-le m bs l) in
     let b : min Max.max-input-words ((length bs + 3) / 4) ≡ Max.max-input-words = omega arith in
-    rw (a, b) (list_same (inputWord (take m bs)) (inputWord bs) Max.max-input-words (λ i h. word_same bs m i (omega arith) l))
+    rw (a, b) (list-same (inputWord (take m bs)) (inputWord bs) Max.max-input-words (λ i h. word-same bs m i (omega arith) l))
 
-pub beyond-ignored : (bs : List ℕ) → program_of (take max-input bs) ≡ program_of bs
-unfolding program_of
+pub beyond-ignored : (bs : List ℕ) → programOf (take max-input bs) ≡ programOf bs
+unfolding programOf
 beyond-ignored bs =
-    elim (dec_le (length bs) max-input) [ yes h ↦ rw (take_all max-input bs h) | no h ↦ rw (words_same bs max-input refl (omega arith)) ]
+    elim (dec_le (length bs) max-input) [ yes h ↦ rw (take_all max-input bs h) | no h ↦ rw (words-same bs max-input refl (omega arith)) ]

@@ -9,7 +9,7 @@ mod runs; // the lines of a run
 ghost use Rattle.std.specs.Prelude.{◌≡◌, ℕ, ◌≤◌, length, take};
 ghost use Rattle.std.proofs.lemmas.List.Edits.{sets};
 ghost use Rattle.meaning.specs.Check.{checkOf};
-ghost use Rattle.meaning.specs.Program.{printed, program_of};
+ghost use Rattle.meaning.specs.Program.{printed, programOf};
 ghost use Rattle.report.specs.Room as Room;
 ghost use Rattle.report.specs.Text.{Puts};
 ghost use Rattle.report.specs.Whole.{printedOf};
@@ -64,8 +64,8 @@ fn put_words(out: &mut [u8], words: &[u32]) -> usize
 // What the program prints, at the front of `out`, whose other bytes stay as they were; how many bytes it is.
 pub fn report(bytes: &[u8], out: &mut [u8]) -> usize
     requires { Room.output ≤ length out.old }
-    ensures out_after { out.new ≡ sets out.old 0 (program_of bytes.now) }
-    ensures value { result ≡ length (program_of bytes.now) }
+    ensures out_after { out.new ≡ sets out.old 0 (programOf bytes.now) }
+    ensures value { result ≡ length (programOf bytes.now) }
     ensures upper_bound { (result ≤ length out.new) × (result ≡ length (take result out.new)) }
 {
     let mut words = [0u32; MAX_INPUT_WORDS];

@@ -1,7 +1,7 @@
 // The lines of a run.
 ghost use Rattle.std.specs.Prelude.{◌≡◌, ℕ, ◌+◌, ◌*◌, ◌≤◌, length};
 ghost use Rattle.word.specs.Limits as Max;
-ghost use Rattle.meaning.specs.Calls.{start_of};
+ghost use Rattle.meaning.specs.Calls.{startOf};
 ghost use Rattle.meaning.specs.Program.{runFromStart};
 ghost use Rattle.scr.specs.Answers.{refusalSays, answerSays};
 ghost use Rattle.report.specs.Text.{Puts};
@@ -42,7 +42,7 @@ fn put_ran(out: &mut [u8], at: usize, events: &[u32], states: &[u32], answer: An
 // The run from the initial state.
 pub fn put_run(out: &mut [u8], at: usize, set: &[u32], events: &[u32]) -> usize
     requires { (at + Room.run ≤ length out.old) × Passed set.now }
-    ensures puts { Puts (runFromStart set.now events.now (start_of set.now)) out.old at out.new result }
+    ensures puts { Puts (runFromStart set.now events.now (startOf set.now)) out.old at out.new result }
     ensures upper_bound { result ≤ at + Room.run }
 {
     let initial = scr::start(set);

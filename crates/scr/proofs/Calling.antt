@@ -10,10 +10,10 @@ use lib.ListN.{length}
 use lib.Seq.{sets}
 use borrow.Author.Tests.{le-ltb, lt-ltb, lt-leb, le-leb}
 use Rattle.meaning.specs.Answers.{ok, refuse, ◌>>=◌, demand}
-use Rattle.meaning.specs.Searches.{list_of}
+use Rattle.meaning.specs.Searches.{listOf}
 use Rattle.meaning.specs.States.{initialState}
-use Rattle.meaning.specs.Steps.{input_of, step_of}
-use Rattle.meaning.specs.Calls.{start_of, values_of, lentValues}
+use Rattle.meaning.specs.Steps.{inputOf, stepOf}
+use Rattle.meaning.specs.Calls.{startOf, valuesOf, lentValues}
 use Rattle.theory.specs.Numbers.{initial-below}
 use Rattle.state.specs.Held.{digitAt, initialNumber}
 use Rattle.state.proofs.Means.{count-is, initial-number}
@@ -31,9 +31,9 @@ use Rattle.scr.specs.declared.Answer.TheVariants as A
 use Rattle.scr.specs.declared.Count.TheVariants as C
 use Rattle.scr.specs.declared.opening.Index.{Index}
 use Rattle.scr.specs.declared.opening.Reading.TheVariants as Readings
-use Rattle.scr.specs.Answers.{refusalSays, refused, answerSays, countSays, count_of}
+use Rattle.scr.specs.Answers.{refusalSays, refused, answerSays, countSays, countOf}
 use Rattle.scr.specs.Opened.{IndexOf, ReadingAs, OpenedAs, isOk, readsWell}
-use Rattle.scr.proofs.Refusing.{refused_says}
+use Rattle.scr.proofs.Refusing.{refused-says}
 use Rattle.scr.proofs.Indexing.{lentOrder, well, few, order-lent, typed-state, no-state}
 
 -- ---- does the set read?
@@ -48,8 +48,8 @@ module _ (ws : List ℕ) (o : Index) (h : OpenedAs ws o) where
 
 module _ (ws : List ℕ) (x : Index) (h : IndexOf ws x) where
   -- ---- start
-  pub start-state : (t : ℕ) → t ≡ initialNumber ws x.places x.weights x.variables % 4294967296 → answerSays (A.State t) ≡ start_of ws
-  unfolding answerSays start_of
+  pub start-state : (t : ℕ) → t ≡ initialNumber ws x.places x.weights x.variables % 4294967296 → answerSays (A.State t) ≡ startOf ws
+  unfolding answerSays startOf
   start-state t e =
       let l = initial-below h.set (well h).sizes (well h).initials in
       let low : initialState h.set < 4294967296 = omega (arith, l, few h) in
@@ -62,14 +62,14 @@ module _ (ws : List ℕ) (x : Index) (h : IndexOf ws x) where
 
   -- ---- step
   module _ (s w : ℕ) where
-    pub step-no-state : x.states ≤ s → answerSays (A.Refused (R.NoState s)) ≡ step_of ws s w
-    unfolding answerSays refused refusalSays step_of
+    pub step-no-state : x.states ≤ s → answerSays (A.Refused (R.NoState s)) ≡ stepOf ws s w
+    unfolding answerSays refused refusalSays stepOf
     step-no-state l = rw (h.read.reads, le-ltb s _ (no-state h s l))
 
     pub step-done : (r : T.Stepped) (a : Answer) → s < x.states
-        → steppedSays s (input_of w) r ≡ stepIndex ws x.places x.weights (lentOrder x) x.variables 0 s w
-        → answerSays a ≡ steppedSays s (input_of w) r → answerSays a ≡ step_of ws s w
-    unfolding step_of
+        → steppedSays s (inputOf w) r ≡ stepIndex ws x.places x.weights (lentOrder x) x.variables 0 s w
+        → answerSays a ≡ steppedSays s (inputOf w) r → answerSays a ≡ stepOf ws s w
+    unfolding stepOf
     step-done r a l e ea =
         let typed = typed-state h s l in
         rw (h.read.reads, lt-ltb s _ typed)
@@ -80,10 +80,10 @@ module _ (ws : List ℕ) (x : Index) (h : IndexOf ws x) where
 
   -- ---- values
   module _ (s room : ℕ) where
-    values-said : values_of ws s room
+    values-said : valuesOf ws s room
         ≡ (demand (leb x.variables room) 17 (x.variables ∷ []) >>= λ _. demand (ltb s x.states) 15 (s ∷ []) >>= λ _.
         examined ws x.places x.weights (lentOrder x) x.variables s)
-    unfolding values_of examined
+    unfolding valuesOf examined
     values-said =
         rw (
           h.read.reads,
@@ -91,73 +91,73 @@ module _ (ws : List ℕ) (x : Index) (h : IndexOf ws x) where
           order-lent h,
           count-is ws h.set x.variables x.assertions x.places x.weights h.read.typed.indexed (well h) h.read.typed.weights-are,
           values-means ws h.set x.variables x.assertions x.places x.weights h.read.typed.indexed (well h)
-              h.read.typed.weights-are s (input_of 0),
+              h.read.typed.weights-are s (inputOf 0),
         )
 
-    pub count_room : room < x.variables → countSays (C.Refused (R.Room x.variables)) ≡ count_of (values_of ws s room)
-    unfolding countSays refused refusalSays count_of
-    count_room l = rw (values-said, lt-leb x.variables room l)
+    pub count-room : room < x.variables → countSays (C.Refused (R.Room x.variables)) ≡ countOf (valuesOf ws s room)
+    unfolding countSays refused refusalSays countOf
+    count-room l = rw (values-said, lt-leb x.variables room l)
 
-    pub kept-room : (out : List ℕ) → room < x.variables → out ≡ lentValues (values_of ws s room) out
+    pub kept-room : (out : List ℕ) → room < x.variables → out ≡ lentValues (valuesOf ws s room) out
     unfolding lentValues
     kept-room out l = rw (values-said, lt-leb x.variables room l)
 
     module _ (l : x.variables ≤ room) where
-      pub count-no-state : x.states ≤ s → countSays (C.Refused (R.NoState s)) ≡ count_of (values_of ws s room)
-      unfolding countSays refused refusalSays count_of
+      pub count-no-state : x.states ≤ s → countSays (C.Refused (R.NoState s)) ≡ countOf (valuesOf ws s room)
+      unfolding countSays refused refusalSays countOf
       count-no-state k = rw (values-said, le-leb x.variables room l, le-ltb s x.states k)
 
-      pub kept-no-state : (out : List ℕ) → x.states ≤ s → out ≡ lentValues (values_of ws s room) out
+      pub kept-no-state : (out : List ℕ) → x.states ≤ s → out ≡ lentValues (valuesOf ws s room) out
       unfolding lentValues
       kept-no-state out k = rw (values-said, le-leb x.variables room l, le-ltb s x.states k)
 
       -- by what settling gave
       module _ (k : s < x.states) (own : List ℕ) (m : ℕ) (r : S.Settled) (em : m ≡ x.variables)
-          (er : joined r own ≡ stateWalk ws x.places x.weights s (lentOrder x) (list_of (digitAt ws x.places x.weights s) m)) where
-        examined-says : values_of ws s room ≡ settledSays 0 s (input_of 0) own r
+          (er : joined r own ≡ stateWalk ws x.places x.weights s (lentOrder x) (listOf (digitAt ws x.places x.weights s) m)) where
+        examined-says : valuesOf ws s room ≡ settledSays 0 s (inputOf 0) own r
         unfolding examined
         examined-says =
             rw (values-said, le-leb x.variables room l, lt-ltb s x.states k)
-            (said 0 s (input_of 0) r own (stateWalk ws x.places x.weights s (lentOrder x) (list_of (digitAt ws x.places x.weights s) x.variables)) (rw em at er))
+            (said 0 s (inputOf 0) r own (stateWalk ws x.places x.weights s (lentOrder x) (listOf (digitAt ws x.places x.weights s) x.variables)) (rw em at er))
 
         -- a refusal writes nothing
-        count-refused : (q : Refusal) (j : ℕ) (xs : List ℕ) → values_of ws s room ≡ refuse j xs → refusalSays q ≡ (j, xs)
-            → countSays (C.Refused q) ≡ count_of (values_of ws s room)
-        unfolding countSays count_of
-        count-refused q j xs e eq = rw e (refused_says q j xs eq)
+        count-refused : (q : Refusal) (j : ℕ) (xs : List ℕ) → valuesOf ws s room ≡ refuse j xs → refusalSays q ≡ (j, xs)
+            → countSays (C.Refused q) ≡ countOf (valuesOf ws s room)
+        unfolding countSays countOf
+        count-refused q j xs e eq = rw e (refused-says q j xs eq)
 
         module _ (q : Refusal) where
-          pub gap-count : (v : ℕ) → r ≡ SV.Gap v → refusalSays q ≡ (10, 0 ∷ s ∷ v ∷ []) → countSays (C.Refused q) ≡ count_of (values_of ws s room)
+          pub gap-count : (v : ℕ) → r ≡ SV.Gap v → refusalSays q ≡ (10, 0 ∷ s ∷ v ∷ []) → countSays (C.Refused q) ≡ countOf (valuesOf ws s room)
           unfolding settledSays
           gap-count v e eq = count-refused q 10 (0 ∷ s ∷ v ∷ []) (examined-says ∙ rw e) eq
 
           pub overlap-count : (v i j : ℕ) → r ≡ SV.Overlap v i j → refusalSays q ≡ (11, 0 ∷ s ∷ v ∷ i ∷ j ∷ [])
-              → countSays (C.Refused q) ≡ count_of (values_of ws s room)
+              → countSays (C.Refused q) ≡ countOf (valuesOf ws s room)
           unfolding settledSays
           overlap-count v i j e eq = count-refused q 11 (0 ∷ s ∷ v ∷ i ∷ j ∷ []) (examined-says ∙ rw e) eq
 
-          pub step_count : (v i j : ℕ) → r ≡ SV.StepOverlap v i j
-              → refusalSays q ≡ (12, s ∷ (input_of 0).variable ∷ (input_of 0).value ∷ v ∷ i ∷ j ∷ []) → countSays (C.Refused q) ≡ count_of (values_of ws s room)
+          pub step-count : (v i j : ℕ) → r ≡ SV.StepOverlap v i j
+              → refusalSays q ≡ (12, s ∷ (inputOf 0).variable ∷ (inputOf 0).value ∷ v ∷ i ∷ j ∷ []) → countSays (C.Refused q) ≡ countOf (valuesOf ws s room)
           unfolding settledSays
-          step_count v i j e eq = count-refused q 12 (s ∷ (input_of 0).variable ∷ (input_of 0).value ∷ v ∷ i ∷ j ∷ []) (examined-says ∙ rw e) eq
+          step-count v i j e eq = count-refused q 12 (s ∷ (inputOf 0).variable ∷ (inputOf 0).value ∷ v ∷ i ∷ j ∷ []) (examined-says ∙ rw e) eq
 
-        pub done-count : r ≡ SV.Done → length own ≡ m → countSays (C.Written x.variables) ≡ count_of (values_of ws s room)
-        unfolding settledSays countSays count_of
+        pub done-count : r ≡ SV.Done → length own ≡ m → countSays (C.Written x.variables) ≡ countOf (valuesOf ws s room)
+        unfolding settledSays countSays countOf
         done-count e long = rw (examined-says, e) (ap ok (sym (long ∙ em)))
 
         module _ (out : List ℕ) where
-          pub gap-kept : (v : ℕ) → r ≡ SV.Gap v → out ≡ lentValues (values_of ws s room) out
+          pub gap-kept : (v : ℕ) → r ≡ SV.Gap v → out ≡ lentValues (valuesOf ws s room) out
           unfolding settledSays lentValues
           gap-kept v e = rw (examined-says, e)
 
-          pub overlap-kept : (v i j : ℕ) → r ≡ SV.Overlap v i j → out ≡ lentValues (values_of ws s room) out
+          pub overlap-kept : (v i j : ℕ) → r ≡ SV.Overlap v i j → out ≡ lentValues (valuesOf ws s room) out
           unfolding settledSays lentValues
           overlap-kept v i j e = rw (examined-says, e)
 
-          pub step_kept : (v i j : ℕ) → r ≡ SV.StepOverlap v i j → out ≡ lentValues (values_of ws s room) out
+          pub step-kept : (v i j : ℕ) → r ≡ SV.StepOverlap v i j → out ≡ lentValues (valuesOf ws s room) out
           unfolding settledSays lentValues
-          step_kept v i j e = rw (examined-says, e)
+          step-kept v i j e = rw (examined-says, e)
 
-          pub done-written : (after : List ℕ) → r ≡ SV.Done → after ≡ sets out 0 own → after ≡ lentValues (values_of ws s room) out
+          pub done-written : (after : List ℕ) → r ≡ SV.Done → after ≡ sets out 0 own → after ≡ lentValues (valuesOf ws s room) out
           unfolding settledSays lentValues
           done-written after e eq = rw (examined-says, e) eq

@@ -44,7 +44,7 @@ module _ {ws : List ℕ} {x : Index} (h : IndexOf ws x) where
   order-room = omega (arith, h.read.typed.indexed.few, h.read.order-long)
 
   pub order-lent : lentOrder x ≡ order h.set
-  order-lent = order-front x ∙ h.read.order_is
+  order-lent = order-front x ∙ h.read.order-is
 
   pub order-few : length (lentOrder x) ≤ Max.max-variables
   order-few = rw (order-front x) (omega (arith, length-take x.variables x.order, index-few))

@@ -13,7 +13,7 @@ use Rattle.scr.specs.declared.opening.Reading.TheVariants as Readings
 use Rattle.scr.specs.declared.opening.Index.{Index}
 use Rattle.scr.specs.Answers.{refusalSays}
 use Rattle.scr.specs.Opened.{ReadingAs, OpenedAs}
-use Rattle.scr.proofs.Refusing.{refused_says}
+use Rattle.scr.proofs.Refusing.{refused-says}
 
 module _ (ws ps us os : List ℕ) (r : R.SetRead) (h : SetAs ws r ps us os) where
   pub reading-known : (k x : ℕ) → r ≡ RV.Refused k x → mem k typedNumbers ≡ true
@@ -23,11 +23,11 @@ module _ (ws ps us os : List ℕ) (r : R.SetRead) (h : SetAs ws r ps us os) wher
   module _ (o : Index) (q : Refusal) (eo : o.reading ≡ Readings.Refused q) where
     pub open-refused : (k x : ℕ) → r ≡ RV.Refused k x → refusalSays q ≡ (k, x ∷ []) → OpenedAs ws o
     unfolding SetAs OpenedAs ReadingAs
-    open-refused k x e eq = let p = rw e at h in rw eo (p.0 ∙ sym (refused_says q k (x ∷ []) eq))
+    open-refused k x e eq = let p = rw e at h in rw eo (p.0 ∙ sym (refused-says q k (x ∷ []) eq))
 
     pub open-cycle : (v m : ℕ) → r ≡ RV.Cycle v m → refusalSays q ≡ (9, v ∷ m ∷ []) → OpenedAs ws o
     unfolding SetAs OpenedAs ReadingAs
-    open-cycle v m e eq = let p = rw e at h in rw eo (p ∙ sym (refused_says q 9 (v ∷ m ∷ []) eq))
+    open-cycle v m e eq = let p = rw e at h in rw eo (p ∙ sym (refused-says q 9 (v ∷ m ∷ []) eq))
 
   pub open-set : (n a c : ℕ) → r ≡ RV.Set n a c
       → OpenedAs ws (record { reading = Readings.Set; variables = n; states = c; assertions = a; places = ps; weights = us; order = os })

@@ -10,8 +10,8 @@ use borrow.Author.Tests.{le-ltb, lt-ltb, lt-leb, le-leb}
 use borrow.Rule.Slice.PartMut.{put_mid}
 use Rattle.word.specs.Limits as Max
 use Rattle.meaning.specs.Answers.{refuse}
-use Rattle.meaning.specs.Steps.{input_of}
-use Rattle.meaning.specs.Run.{runReady, ranOf, run_of}
+use Rattle.meaning.specs.Steps.{inputOf}
+use Rattle.meaning.specs.Run.{runReady, ranOf, runOf}
 use Rattle.simulator.specs.declared.Stepped.{Stepped}
 use Rattle.simulator.specs.declared.run.Ended.{Ended}
 use Rattle.simulator.specs.declared.run.Ended.TheVariants as E
@@ -40,7 +40,7 @@ module _ (ws : List ℕ) (x : Index) (s : ℕ) (es : List ℕ) where
     unfolding endedSays answerSays
     performed-last t e = (rw e at er) ∙ rw run-front
 
-    pub performed-refused : (t w : ℕ) (why : Stepped) (a : Answer) → r ≡ E.Refused t w why → answerSays a ≡ steppedSays t (input_of w) why
+    pub performed-refused : (t w : ℕ) (why : Stepped) (a : Answer) → r ≡ E.Refused t w why → answerSays a ≡ steppedSays t (inputOf w) why
         → answerSays a ≡ (runIn ws x s es).last
     unfolding endedSays
     performed-refused t w why a e ea = let p = rw e at er in ea ∙ p ∙ rw run-front
@@ -54,8 +54,8 @@ module _ (ws : List ℕ) (x : Index) (h : IndexOf ws x) (s : ℕ) (es lent : Lis
   abbrev room : ℕ
   room = length lent - place
 
-  stopped : (k : ℕ) (xs : List ℕ) → runReady ws s (length es) room ≡ refuse k xs → run_of ws s es lent place ≡ record { answer = refuse k xs; lent = lent }
-  unfolding run_of ranOf
+  stopped : (k : ℕ) (xs : List ℕ) → runReady ws s (length es) room ≡ refuse k xs → runOf ws s es lent place ≡ record { answer = refuse k xs; lent = lent }
+  unfolding runOf ranOf
   stopped k xs e = rw (e, ranOf)
 
   many : Max.max-events < length es → runReady ws s (length es) room ≡ refuse 17 (suc Max.max-events ∷ [])
@@ -71,8 +71,8 @@ module _ (ws : List ℕ) (x : Index) (h : IndexOf ws x) (s : ℕ) (es lent : Lis
   untyped l k c = rw (h.read.reads, le-leb (length es) Max.max-events l, le-leb (length es) room k, le-ltb s _ (no-state h s c))
 
   runs : length es ≤ Max.max-events → length es ≤ room → s < x.states
-      → run_of ws s es lent place ≡ record { answer = (runIn ws x s es).last; lent = sets lent place (runIn ws x s es).done }
-  unfolding run_of ranOf runReady runIn
+      → runOf ws s es lent place ≡ record { answer = (runIn ws x s es).last; lent = sets lent place (runIn ws x s es).done }
+  unfolding runOf ranOf runReady runIn
   runs l k c =
       let typed = typed-state h s c in
       rw (
@@ -80,18 +80,18 @@ module _ (ws : List ℕ) (x : Index) (h : IndexOf ws x) (s : ℕ) (es lent : Lis
         le-leb (length es) Max.max-events l,
         le-leb (length es) room k,
         lt-ltb s _ typed,
-        h.read.order_is,
+        h.read.order-is,
         run-means ws h.set x.variables x.assertions x.places x.weights h.read.typed.indexed (well h) h.read.typed.weights-are
             h.read.acyclic (few h) 0 s es typed,
         ranOf,
       )
 
   module _ (l : Max.max-events < length es) where
-    pub many-answer : answerSays (A.Refused (R.Room (Max.max-events + 1))) ≡ (run_of ws s es lent place).answer
+    pub many-answer : answerSays (A.Refused (R.Room (Max.max-events + 1))) ≡ (runOf ws s es lent place).answer
     unfolding answerSays refused refusalSays
     many-answer = rw (stopped 17 _ (many l))
 
-    pub many-kept : lent ≡ (run_of ws s es lent place).lent
+    pub many-kept : lent ≡ (runOf ws s es lent place).lent
     many-kept = rw (stopped 17 _ (many l))
 
   module _ (free : ℕ) (ef : free ≡ room) (l : length es ≤ Max.max-events) where
@@ -99,11 +99,11 @@ module _ (ws : List ℕ) (x : Index) (h : IndexOf ws x) (s : ℕ) (es lent : Lis
       abbrev Short : runReady ws s (length es) room ≡ refuse 17 (length es ∷ [])
       Short = short l (rw (← ef) k)
 
-      pub short-answer : answerSays (A.Refused (R.Room (length es))) ≡ (run_of ws s es lent place).answer
+      pub short-answer : answerSays (A.Refused (R.Room (length es))) ≡ (runOf ws s es lent place).answer
       unfolding answerSays refused refusalSays
       short-answer = rw (stopped 17 _ Short)
 
-      pub short-kept : lent ≡ (run_of ws s es lent place).lent
+      pub short-kept : lent ≡ (runOf ws s es lent place).lent
       short-kept = rw (stopped 17 _ Short)
 
     module _ (k : length es ≤ free) where
@@ -111,28 +111,28 @@ module _ (ws : List ℕ) (x : Index) (h : IndexOf ws x) (s : ℕ) (es lent : Lis
       enough = rw (← ef) k
 
       module _ (c : x.states ≤ s) where
-        pub state-answer : answerSays (A.Refused (R.NoState s)) ≡ (run_of ws s es lent place).answer
+        pub state-answer : answerSays (A.Refused (R.NoState s)) ≡ (runOf ws s es lent place).answer
         unfolding answerSays refused refusalSays
         state-answer = rw (stopped 15 _ (untyped l enough c))
 
-        pub state-kept : lent ≡ (run_of ws s es lent place).lent
+        pub state-kept : lent ≡ (runOf ws s es lent place).lent
         state-kept = rw (stopped 15 _ (untyped l enough c))
 
       module _ (c : s < x.states) where
-        pub run-answer : (a : Answer) → answerSays a ≡ (runIn ws x s es).last → answerSays a ≡ (run_of ws s es lent place).answer
+        pub run-answer : (a : Answer) → answerSays a ≡ (runIn ws x s es).last → answerSays a ≡ (runOf ws s es lent place).answer
         run-answer a e = rw (runs l enough c) e
 
-        pub run-written : (after : List ℕ) → after ≡ sets lent place (runIn ws x s es).done → after ≡ (run_of ws s es lent place).lent
+        pub run-written : (after : List ℕ) → after ≡ sets lent place (runIn ws x s es).done → after ≡ (runOf ws s es lent place).lent
         run-written after e = rw (runs l enough c) e
 
 -- ---- a place at or past the end: there are no events
-none_left : (es : List ℕ) → length es ≤ 0 → es ≡ []
-none_left [] h = refl
-none_left (e ∷ es) h = let o : ⊥ = omega arith in absurd o
+none-left : (es : List ℕ) → length es ≤ 0 → es ≡ []
+none-left [] h = refl
+none-left (e ∷ es) h = let o : ⊥ = omega arith in absurd o
 
 module _ (ws : List ℕ) (x : Index) (s : ℕ) (es lent : List ℕ) (place : ℕ) (l : length es ≤ length lent - place) (m : length lent ≤ place) where
   none : es ≡ []
-  none = none_left es (let z : length es ≤ 0 = omega arith in z)
+  none = none-left es (let z : length es ≤ 0 = omega arith in z)
 
   pub past-answer : answerSays (A.State s) ≡ (runIn ws x s es).last
   unfolding answerSays runIn runIndex
@@ -150,8 +150,8 @@ part-sets l p i (v ∷ vs) =
     let on : p + suc i ≡ suc (p + i) = omega arith in
     rw (← drop-set-add p l i v, ← take-set-le p l (p + i) v past) (part-sets (set l (p + i) v) p (suc i) vs ∙ rw on)
 
-pub lent_back : (l ys vs : List ℕ) (p : ℕ) → p < length l → ys ≡ sets (take (length l - p) (drop p l)) 0 vs → put_mid p (length l - p) l ys ≡ sets l p vs
-lent_back l ys vs p h e =
+pub lent-back : (l ys vs : List ℕ) (p : ℕ) → p < length l → ys ≡ sets (take (length l - p) (drop p l)) 0 vs → put_mid p (length l - p) l ys ≡ sets l p vs
+lent-back l ys vs p h e =
     let whole : length (drop p l) ≤ length l - p = simp length-drop (omega arith) in
     rw (e, take_all (length l - p) (drop p l) whole, drop_of_length-le (drop p l) whole, append-nil (sets (drop p l) 0 vs))
     (part-sets l p 0 vs ∙ rw (add-zero p))

@@ -8,7 +8,7 @@ use borrow.Author.Tests.{ne_eqb}
 use Rattle.word.specs.Fields as W
 use Rattle.meaning.specs.Answers.{Outcome, refuse, typedNumbers}
 use Rattle.meaning.specs.Searches.{mem}
-use Rattle.meaning.specs.Steps.{input_of}
+use Rattle.meaning.specs.Steps.{inputOf}
 use Rattle.theory.specs.Tests.{mem-cons, mem-none}
 use Rattle.simulator.specs.declared.Stepped as S
 use Rattle.simulator.specs.declared.Stepped.TheVariants as SV
@@ -65,35 +65,35 @@ module _ (k x : ℕ) where
 
 pub overlap-says : (s w v i j x y : ℕ) → x ≡ W.variable w → y ≡ W.value w
     → refusalSays (R.StepOverlap (record { state = s; input = record { variable = x; value = y }; variable = v; first = i; second = j }))
-    ≡ (12, s ∷ (input_of w).variable ∷ (input_of w).value ∷ v ∷ i ∷ j ∷ [])
-unfolding input_of refusalSays
+    ≡ (12, s ∷ (inputOf w).variable ∷ (inputOf w).value ∷ v ∷ i ∷ j ∷ [])
+unfolding inputOf refusalSays
 overlap-says s w v i j x y ex ey = rw (ex, ey)
 
 -- ---- the answer of a step
-pub refused_says : {A : Type 0} (r : Refusal) (n : ℕ) (xs : List ℕ) → refusalSays r ≡ (n, xs) → ◌≡◌ {A = Outcome A} (refused r) (refuse n xs)
+pub refused-says : {A : Type 0} (r : Refusal) (n : ℕ) (xs : List ℕ) → refusalSays r ≡ (n, xs) → ◌≡◌ {A = Outcome A} (refused r) (refuse n xs)
 unfolding refused
-refused_says r n xs e = rw e
+refused-says r n xs e = rw e
 
 module _ (s w : ℕ) (r : S.Stepped) where
-  pub stepped-state : (t : ℕ) → r ≡ SV.State t → answerSays (A.State t) ≡ steppedSays s (input_of w) r
+  pub stepped-state : (t : ℕ) → r ≡ SV.State t → answerSays (A.State t) ≡ steppedSays s (inputOf w) r
   unfolding answerSays steppedSays
   stepped-state t e = rw e
 
-  pub stepped-not : (i : ℕ) → r ≡ SV.NotEnabled i → answerSays (A.Refused (R.NotEnabled i)) ≡ steppedSays s (input_of w) r
+  pub stepped-not : (i : ℕ) → r ≡ SV.NotEnabled i → answerSays (A.Refused (R.NotEnabled i)) ≡ steppedSays s (inputOf w) r
   unfolding answerSays steppedSays refused refusalSays
   stepped-not i e = rw e
 
   pub stepped-gap : (side v : ℕ) (q : Refusal) → r ≡ SV.Gap side v → refusalSays q ≡ (10, side ∷ s ∷ v ∷ [])
-      → answerSays (A.Refused q) ≡ steppedSays s (input_of w) r
+      → answerSays (A.Refused q) ≡ steppedSays s (inputOf w) r
   unfolding answerSays steppedSays
-  stepped-gap side v q e h = rw e (refused_says q 10 (side ∷ s ∷ v ∷ []) h)
+  stepped-gap side v q e h = rw e (refused-says q 10 (side ∷ s ∷ v ∷ []) h)
 
   pub stepped-overlap : (side v i j : ℕ) (q : Refusal) → r ≡ SV.Overlap side v i j → refusalSays q ≡ (11, side ∷ s ∷ v ∷ i ∷ j ∷ [])
-      → answerSays (A.Refused q) ≡ steppedSays s (input_of w) r
+      → answerSays (A.Refused q) ≡ steppedSays s (inputOf w) r
   unfolding answerSays steppedSays
-  stepped-overlap side v i j q e h = rw e (refused_says q 11 (side ∷ s ∷ v ∷ i ∷ j ∷ []) h)
+  stepped-overlap side v i j q e h = rw e (refused-says q 11 (side ∷ s ∷ v ∷ i ∷ j ∷ []) h)
 
   pub stepped-step : (v i j : ℕ) (q : Refusal) → r ≡ SV.StepOverlap v i j
-      → refusalSays q ≡ (12, s ∷ (input_of w).variable ∷ (input_of w).value ∷ v ∷ i ∷ j ∷ []) → answerSays (A.Refused q) ≡ steppedSays s (input_of w) r
+      → refusalSays q ≡ (12, s ∷ (inputOf w).variable ∷ (inputOf w).value ∷ v ∷ i ∷ j ∷ []) → answerSays (A.Refused q) ≡ steppedSays s (inputOf w) r
   unfolding answerSays steppedSays
-  stepped-step v i j q e h = rw e (refused_says q 12 (s ∷ (input_of w).variable ∷ (input_of w).value ∷ v ∷ i ∷ j ∷ []) h)
+  stepped-step v i j q e h = rw e (refused-says q 12 (s ∷ (inputOf w).variable ∷ (inputOf w).value ∷ v ∷ i ∷ j ∷ []) h)

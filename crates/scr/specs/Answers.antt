@@ -49,6 +49,6 @@ countSays (C.Written n) = ok n
 countSays (C.Refused r) = refused r
 
 -- how many values were written, where none is refused
-unfoldable pub count_of : Outcome (List ℕ) → Outcome ℕ
-count_of (ok a) = ok (length a)
-count_of (refuse n xs) = refuse n xs
+unfoldable pub countOf : Outcome (List ℕ) → Outcome ℕ
+countOf (ok a) = ok (length a)
+countOf (refuse n xs) = refuse n xs

@@ -4,7 +4,7 @@ use Rattle.std.proofs.lemmas.List.Edits.{sets}
 use Rattle.meaning.specs.Syntax.{TableSet}
 use Rattle.meaning.specs.Lookup.{count}
 use Rattle.meaning.specs.States.{Values, stateCount}
-use Rattle.meaning.specs.Steps.{input_of, enabledWord}
+use Rattle.meaning.specs.Steps.{inputOf, enabledWord}
 use Rattle.meaning.specs.Answers.{ok, refuse}
 use Rattle.meaning.specs.Check.{Counts, counts}
 use Rattle.meaning.specs.Valued.{IsInitial, OneValuation}
@@ -32,7 +32,7 @@ pub record Demand2 (ws : List ℕ) (r : Verdict) : Type 0 where
 abbrev pub StepsExactly : List ℕ → ℕ → ℕ → Answer → Type 0
 StepsExactly ws s w r =
     (s' : ℕ) → (answerSays r ≡ ok s')
-    ↔ ((z : TableSet) × Reads ws z × (s < stateCount z) × (enabledWord z s w ≡ true) × Clean z s (input_of w) s')
+    ↔ ((z : TableSet) × Reads ws z × (s < stateCount z) × (enabledWord z s w ≡ true) × Clean z s (inputOf w) s')
 
 -- Start answers s exactly if the set reads and s is the state that holds its initial values.
 abbrev pub StartsExactly : List ℕ → Answer → Type 0

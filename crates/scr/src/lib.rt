@@ -11,14 +11,14 @@ mod verdicts; // the verdict of a set that reads
 
 ghost use Rattle.std.specs.Prelude.{◌≡◌, ℕ, length};
 ghost use Rattle.meaning.specs.Answers.{startNumbers, checkNumbers, stepNumbers, valuesNumbers};
-ghost use Rattle.meaning.specs.Calls.{start_of, values_of, lentValues, rows_of};
-ghost use Rattle.meaning.specs.Steps.{step_of};
-ghost use Rattle.meaning.specs.Run.{run_of};
+ghost use Rattle.meaning.specs.Calls.{startOf, valuesOf, lentValues, rowsOf};
+ghost use Rattle.meaning.specs.Steps.{stepOf};
+ghost use Rattle.meaning.specs.Run.{runOf};
 ghost use Rattle.meaning.specs.Passes.{Refused};
 ghost use Rattle.meaning.specs.Demand1.{StartRefused, StepRefused, ValuesRefused, AnswersOrRefuses, RunAnswers, RowsAnswers};
 ghost use Rattle.meaning.specs.Demand3.{Demand3};
 ghost use Rattle.meaning.specs.Check.{checkOf};
-ghost use Rattle.scr.specs.Answers.{answerSays, verdictSays, countSays, count_of};
+ghost use Rattle.scr.specs.Answers.{answerSays, verdictSays, countSays, countOf};
 ghost use Rattle.scr.specs.Promises.{Demand2, StartsExactly, StepsExactly, ValuesExactly};
 
 use crate::opening::{Reading, open};
@@ -133,7 +133,7 @@ pub enum Count {
 
 // The initial state, which holds the initial values, or the first of refusals 1 to 9.
 pub fn start(words: &[u32]) -> Answer
-    ensures result_value { answerSays result ≡ start_of words.now }
+    ensures result_value { answerSays result ≡ startOf words.now }
     ensures answers_or_refuses { AnswersOrRefuses (answerSays result) startNumbers (StartRefused words.now) }
     ensures starts_exactly { StartsExactly words.now result }
 {
@@ -163,7 +163,7 @@ pub fn check(words: &[u32]) -> Verdict
 // The next state, or the refusal. It answers a state exactly if that is the one next state by the SCR rules, met without gap or overlap,
 // and the event word is enabled.
 pub fn step(words: &[u32], state: u32, event: u32) -> Answer
-    ensures result_value { answerSays result ≡ step_of words.now state event }
+    ensures result_value { answerSays result ≡ stepOf words.now state event }
     ensures answers_or_refuses { AnswersOrRefuses (answerSays result) stepNumbers (StepRefused words.now state event) }
     ensures steps_exactly { StepsExactly words.now state event result }
 {
@@ -178,8 +178,8 @@ pub fn step(words: &[u32], state: u32, event: u32) -> Answer
 // The events in turn from a state on. The state after each event done is written to the lent list from the place on, and the last is given;
 // a refusal keeps what was written.
 pub fn run(words: &[u32], state: u32, events: &[u32], trace: &mut [u32], place: usize) -> Answer
-    ensures result_value { answerSays result ≡ (run_of words.now state events.now trace.old place).answer }
-    ensures trace_after { trace.new ≡ (run_of words.now state events.now trace.old place).lent }
+    ensures result_value { answerSays result ≡ (runOf words.now state events.now trace.old place).answer }
+    ensures trace_after { trace.new ≡ (runOf words.now state events.now trace.old place).lent }
     ensures run_answers { RunAnswers words.now state events.now trace.old place (answerSays result) trace.new }
     ensures demand3 { Demand3 words.now state events.now trace.old place (answerSays result) trace.new }
 {
@@ -194,8 +194,8 @@ pub fn run(words: &[u32], state: u32, events: &[u32], trace: &mut [u32], place: 
 // The values of a state, one a variable at the front of a lent list; elements beyond keep their content. They are written exactly if they are the
 // one valuation of the state, met without gap or overlap.
 pub fn values(words: &[u32], state: u32, out: &mut [Value]) -> Count
-    ensures result_value { countSays result ≡ count_of (values_of words.now state (length out.old)) }
-    ensures out_after { out.new ≡ lentValues (values_of words.now state (length out.old)) out.old }
+    ensures result_value { countSays result ≡ countOf (valuesOf words.now state (length out.old)) }
+    ensures out_after { out.new ≡ lentValues (valuesOf words.now state (length out.old)) out.old }
     ensures answers_or_refuses { AnswersOrRefuses (countSays result) valuesNumbers (ValuesRefused words.now state (length out.old)) }
     ensures values_exactly { ValuesExactly words.now state out.old result out.new }
 {
@@ -210,7 +210,7 @@ pub fn values(words: &[u32], state: u32, out: &mut [Value]) -> Count
 // The rows of a variable's table, as a part of the caller's words: those that reading the table took, its table word first; the empty part
 // if the set does not read or has no such table.
 pub fn rows(words: &[u32], variable: u32) -> &[u32]
-    ensures result_value { result.now ≡ rows_of words.now variable }
+    ensures result_value { result.now ≡ rowsOf words.now variable }
     ensures rows_answers { RowsAnswers words.now variable result.now }
 {
     if !calls::reads(words) {

@@ -2,7 +2,7 @@
 ghost use Rattle.std.specs.Prelude.{◌≡◌, true, List, [], ◌∷◌, ℕ};
 ghost use Rattle.meaning.specs.Answers.{typedNumbers};
 ghost use Rattle.meaning.specs.Searches.{mem};
-ghost use Rattle.meaning.specs.Steps.{input_of};
+ghost use Rattle.meaning.specs.Steps.{inputOf};
 ghost use Rattle.simulator.specs.StepIndex.{steppedSays};
 ghost use Rattle.checker.specs.Sweeps.{faultIs};
 ghost use Rattle.scr.specs.Answers.{refusalSays, answerSays};
@@ -65,7 +65,7 @@ pub fn overlap(side: u32, state: u32, variable: usize, first: usize, second: usi
 
 // The input event is the one of event word w.
 pub fn step_overlap(state: u32, w: u32, v: usize, first: usize, second: usize) -> Refusal
-    ensures { refusalSays result ≡ (12, state ∷ (input_of w).variable ∷ (input_of w).value ∷ v ∷ first ∷ second ∷ []) }
+    ensures { refusalSays result ≡ (12, state ∷ (inputOf w).variable ∷ (inputOf w).value ∷ v ∷ first ∷ second ∷ []) }
 {
     let input = Input {
         variable: variable(w) as usize,
@@ -83,7 +83,7 @@ pub fn step_overlap(state: u32, w: u32, v: usize, first: usize, second: usize) -
 
 // The answer of a step from a state by event word w.
 pub fn stepped(state: u32, w: u32, r: Stepped) -> Answer
-    ensures { answerSays result ≡ steppedSays state (input_of w) r }
+    ensures { answerSays result ≡ steppedSays state (inputOf w) r }
 {
     match r {
         Stepped::State(t) => Answer::State(t),

@@ -1,7 +1,7 @@
 // A run of a set that reads, by its index.
 ghost use Rattle.std.specs.Prelude.{◌≡◌, ℕ, ◌-◌, ◌≤◌, length};
 ghost use Rattle.std.proofs.lemmas.List.Edits.{sets};
-ghost use Rattle.meaning.specs.Run.{run_of};
+ghost use Rattle.meaning.specs.Run.{runOf};
 ghost use Rattle.scr.specs.Answers.{answerSays};
 ghost use Rattle.scr.specs.Opened.{IndexOf, runIn};
 
@@ -76,8 +76,8 @@ pub fn run(
     place: usize,
 ) -> Answer
     requires { IndexOf words.now index }
-    ensures result_value { answerSays result ≡ (run_of words.now s events.now trace.old place).answer }
-    ensures trace_after { trace.new ≡ (run_of words.now s events.now trace.old place).lent }
+    ensures result_value { answerSays result ≡ (runOf words.now s events.now trace.old place).answer }
+    ensures trace_after { trace.new ≡ (runOf words.now s events.now trace.old place).lent }
 {
     if MAX_EVENTS < events.len() {
         return Answer::Refused(Refusal::Room(MAX_EVENTS + 1));

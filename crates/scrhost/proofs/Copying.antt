@@ -22,9 +22,9 @@ copied bs xs all n i r m h hm len er e =
     rw (er, add-one i, take-suc-set xs i (wordOfBytes bs (i * 4)) h', append_assoc, ← add-one i, ← words-on bs n i h) e
 
 -- and at the end
-pub copied_all : (bs xs all : List ℕ) (n i : ℕ) → i ≤ n → n ≤ i → take i xs ++ wordsOfBytes bs (n - i) i ≡ all → take n xs ≡ all
+pub copied-all : (bs xs all : List ℕ) (n i : ℕ) → i ≤ n → n ≤ i → take i xs ++ wordsOfBytes bs (n - i) i ≡ all → take n xs ≡ all
 unfolding wordsOfBytes
-copied_all bs xs all n i k h e =
+copied-all bs xs all n i k h e =
     let z : n - i ≡ 0 = omega arith in
     let q : i ≡ n = omega arith in
     sym (append-nil (take n xs)) ∙ (rw (z, q) at e)

@@ -15,7 +15,7 @@ use Rattle.meaning.specs.Syntax.{TableSet}
 use Rattle.meaning.specs.Reading.{readWords}
 use Rattle.meaning.specs.States.{readTyped, readSet}
 use Rattle.meaning.specs.Check.{checkOf}
-use Rattle.meaning.specs.Steps.{step_of}
+use Rattle.meaning.specs.Steps.{stepOf}
 use Rattle.meaning.specs.Host.{wordsOfBytes, hostWords, passed, stepped, hostCheckOf, hostStepOf}
 use Rattle.theory.specs.Tests.{true-not-false, and-true}
 use Rattle.scr.specs.declared.Refusal.{Refusal}
@@ -39,9 +39,9 @@ pub check-refuses : (v : Verdict) (q : Refusal) (t : Told) → v ≡ Verdicts.Re
 unfolding passed verdictSays refused
 check-refuses v q t e h = rw e h.number
 
-pub step_gives : (a : Answer) (s : ℕ) → a ≡ A.State s → s ≡ stepped (answerSays a)
+pub step-gives : (a : Answer) (s : ℕ) → a ≡ A.State s → s ≡ stepped (answerSays a)
 unfolding stepped answerSays
-step_gives a s e = rw e
+step-gives a s e = rw e
 
 pub step-refuses : (a : Answer) (q : Refusal) (t : Told) → a ≡ A.Refused q → Tells t (refusalSays q)
     → 2147483648 + t.number ≡ stepped (answerSays a)
@@ -59,9 +59,9 @@ broken-words : (bs : List ℕ) → eqb (length bs % 4) 0 ≡ false → hostWords
 unfolding hostWords
 broken-words bs e = rw e
 
-whole_words : (bs : List ℕ) → eqb (length bs % 4) 0 ≡ true → hostWords bs ≡ ok (wordsOfBytes bs (length bs / 4) 0)
+whole-words : (bs : List ℕ) → eqb (length bs % 4) 0 ≡ true → hostWords bs ≡ ok (wordsOfBytes bs (length bs / 4) 0)
 unfolding hostWords
-whole_words bs e = rw e
+whole-words bs e = rw e
 
 long-words : (bs : List ℕ) → eqb (length bs % 4) 0 ≡ true → leb (length bs) max-bytes ≡ false → Max.max-words < length (wordsOfBytes bs (length bs / 4) 0)
 long-words bs e f =
@@ -79,7 +79,7 @@ module _ (bs : List ℕ) (b : Bool) (eb : b ≡ (eqb (length bs % 4) 0 && leb (l
       go : (x y : Bool) → eqb (length bs % 4) 0 ≡ x → leb (length bs) max-bytes ≡ y → (x && y) ≡ false
           → k ≡ g (hostWords bs >>= λ ws. readSet ws >>= f)
       go true true ex ey e = absurd (true-not-false refl e)
-      go true false ex ey e = rw (whole_words bs ex, long-refused _ (long-words bs ex ey)) (h _)
+      go true false ex ey e = rw (whole-words bs ex, long-refused _ (long-words bs ex ey)) (h _)
       go false y ex ey e = rw (broken-words bs ex) (h _)
 
   pub check-unfit : not b ≡ true → 1 ≡ hostCheckOf bs
@@ -87,7 +87,7 @@ module _ (bs : List ℕ) (b : Bool) (eb : b ≡ (eqb (length bs % 4) 0 && leb (l
   check-unfit n = unfit _ passed 1 (λ xs. refl) n
 
   pub step-unfit : (s w : ℕ) → not b ≡ true → 2147483649 ≡ hostStepOf bs s w
-  unfolding hostStepOf stepped step_of
+  unfolding hostStepOf stepped stepOf
   step-unfit s w n = unfit _ stepped 2147483649 (λ xs. refl) n
 
   module _ (n : not b ≡ false) where
@@ -95,7 +95,7 @@ module _ (bs : List ℕ) (b : Bool) (eb : b ≡ (eqb (length bs % 4) 0 && leb (l
     fit = and-true (eqb (length bs % 4) 0) (leb (length bs) max-bytes) (sym eb ∙ not-false b n)
 
     whole : hostWords bs ≡ ok (wordsOfBytes bs (length bs / 4) 0)
-    whole = whole_words bs fit.0
+    whole = whole-words bs fit.0
 
     few : length bs ≤ max-bytes
     few = leb-true (length bs) max-bytes fit.1
@@ -113,7 +113,7 @@ module _ (bs : List ℕ) (b : Bool) (eb : b ≡ (eqb (length bs % 4) 0 && leb (l
       unfolding hostCheckOf
       check-words v ev er = rw (whole, ← e, ← ev) er
 
-      pub step_words : (s w : ℕ) (a : Answer) → answerSays a ≡ step_of (take (length bs / 4) ws) s w → r ≡ stepped (answerSays a)
+      pub step-words : (s w : ℕ) (a : Answer) → answerSays a ≡ stepOf (take (length bs / 4) ws) s w → r ≡ stepped (answerSays a)
           → r ≡ hostStepOf bs s w
       unfolding hostStepOf
-      step_words s w a ea er = rw (whole, ← e, ← ea) er
+      step-words s w a ea er = rw (whole, ← e, ← ea) er

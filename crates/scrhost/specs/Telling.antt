@@ -4,10 +4,10 @@ use Rattle.std.proofs.Common.{sym, arith}
 use Rattle.meaning.specs.Answers.{Outcome, ok, refuse, ◌>>=◌, demand, checkNumbers}
 use Rattle.meaning.specs.Searches.{mem}
 use Rattle.meaning.specs.Check.{Counts, checkOf}
-use Rattle.meaning.specs.Steps.{step_of}
+use Rattle.meaning.specs.Steps.{stepOf}
 use Rattle.meaning.specs.Host.{wordsOfBytes, hostWords, passed, stepped, hostCheckOf, hostStepOf}
-use Rattle.theory.specs.Tests.{leb-true, all_of, mem-passes}
-use Rattle.theory.specs.Found.{ok-not-refuse, refuse-same, bind_ok}
+use Rattle.theory.specs.Tests.{leb-true, all-of, mem-passes}
+use Rattle.theory.specs.Found.{ok-not-refuse, refuse-same, bind-ok}
 use Rattle.theory.specs.WellRead.{read-well-formed, states-few}
 use Rattle.theory.specs.Orders.{order-exists}
 use Rattle.theory.specs.Valuations.{valuation-typed}
@@ -16,7 +16,7 @@ use Rattle.theory.specs.StepExactly.{step-exactly}
 
 -- ---- check
 host-positive : (bs : List ℕ) (n : ℕ) (xs : List ℕ) → (hostWords bs >>= λ ws. checkOf ws) ≡ refuse n xs → 1 ≤ n
-unfolding hostWords all_of mem
+unfolding hostWords all-of mem
 host-positive bs n xs = go (eqb (length bs % 4) 0)
   where
     go : (b : Bool)
@@ -37,9 +37,9 @@ check-told bs = pass-told (hostWords bs >>= λ ws. checkOf ws) (host-positive bs
 
 -- ---- step
 -- a state is below 65,536
-host-low : (bs : List ℕ) (s w t : ℕ) → (hostWords bs >>= λ ws. step_of ws s w) ≡ ok t → t < 2 ^ 31
+host-low : (bs : List ℕ) (s w t : ℕ) → (hostWords bs >>= λ ws. stepOf ws s w) ≡ ok t → t < 2 ^ 31
 host-low bs s w t e =
-    let p = bind_ok (hostWords bs) _ t e in
+    let p = bind-ok (hostWords bs) _ t e in
     let ws = p.0 in
     let q = (step-exactly ws s w t).0 p.2 in
     let z = q.0 in
@@ -53,6 +53,6 @@ unfolding stepped
 state-told (ok t) h = (λ _. (t, refl), λ _. h t refl)
 state-told (refuse n xs) h = (λ l. absurd (omega arith), λ p. absurd (ok-not-refuse (sym p.1)))
 
-pub step-told : (bs : List ℕ) (s w : ℕ) → (hostStepOf bs s w < 2 ^ 31) ↔ ((t : ℕ) × ((hostWords bs >>= λ ws. step_of ws s w) ≡ ok t))
+pub step-told : (bs : List ℕ) (s w : ℕ) → (hostStepOf bs s w < 2 ^ 31) ↔ ((t : ℕ) × ((hostWords bs >>= λ ws. stepOf ws s w) ≡ ok t))
 unfolding hostStepOf
-step-told bs s w = state-told (hostWords bs >>= λ ws. step_of ws s w) (host-low bs s w)
+step-told bs s w = state-told (hostWords bs >>= λ ws. stepOf ws s w) (host-low bs s w)

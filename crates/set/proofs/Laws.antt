@@ -12,8 +12,8 @@ use Rattle.reader.specs.declared.Typed.TheVariants as TV
 use Rattle.reader.specs.Typed.{TypedAs}
 use Rattle.order.specs.declared.Order as O
 use Rattle.order.specs.declared.Order.TheVariants as OV
-use Rattle.order.specs.Orders.{order_at, noCycleAt, cycleSaid}
-use Rattle.order.proofs.Means.{order-means, order_below}
+use Rattle.order.specs.Orders.{orderAt, noCycleAt, cycleSaid}
+use Rattle.order.proofs.Means.{order-means, order-below}
 use Rattle.theory.specs.Numbered.{typed-number}
 use Rattle.set.specs.declared.SetRead.TheVariants.{Set, Refused, Cycle}
 use Rattle.set.specs.ReadSet.{SetAs}
@@ -37,9 +37,9 @@ module _ (ws ps us os : List ℕ) (t : T.Typed) (n a c : ℕ) (o : O.Order) (h :
       let s : noCycle q.0 ≡ refuse 9 (w ∷ m ∷ []) = sym (order-means q.1.indexed).1 ∙ sym eo ∙ rw p in
       rw (q.1.typed, s)
 
-  pub set_all : o ≡ OV.All → take (length (order_at ws ps n)) os ≡ order_at ws ps n → length os ≡ Max.max-variables → SetAs ws (Set n a c) ps us os
+  pub set-all : o ≡ OV.All → take (length (orderAt ws ps n)) os ≡ orderAt ws ps n → length os ≡ Max.max-variables → SetAs ws (Set n a c) ps us os
   unfolding SetAs TypedAs cycleSaid readSet
-  set_all p take-is long =
+  set-all p take-is long =
       let q = rw e at h in
       let m = order-means q.1.indexed in
       let s : noCycle q.0 ≡ ok tt = sym m.1 ∙ sym eo ∙ rw p in (
@@ -48,7 +48,7 @@ module _ (ws ps us os : List ℕ) (t : T.Typed) (n a c : ℕ) (o : O.Order) (h :
           reads = rw (q.1.typed, s);
           typed = q.1;
           acyclic = s;
-          order_is = subst (λ (k : ℕ). take k os ≡ order q.0) (order_below q.1.indexed s) (take-is ∙ m.0);
+          order-is = subst (λ (k : ℕ). take k os ≡ order q.0) (order-below q.1.indexed s) (take-is ∙ m.0);
           order-long = long;
         },
       )

@@ -15,7 +15,7 @@ pub record ReadSet (ws : List ℕ) (z : TableSet) (n a c : ℕ) (ps us os : List
   pub reads : readSet ws ≡ ok z
   pub typed : TypedSet ws z n a c ps us
   pub acyclic : noCycle z ≡ ok tt
-  pub order_is : take n os ≡ order z
+  pub order-is : take n os ≡ order z
   pub order-long : length os ≡ Max.max-variables
 
 unfoldable pub SetAs : List ℕ → SetRead → List ℕ → List ℕ → List ℕ → Type 0

@@ -6,7 +6,7 @@ use native.Mathlib.Numerals.{add-one}
 use lib.ListN.{length, get_or, set, drop, drop_of_length-le}
 use lib.Seq.{sets, drop-cons}
 use Rattle.meaning.specs.Answers.{Outcome, ok, refuse}
-use Rattle.meaning.specs.Steps.{Input, input_of}
+use Rattle.meaning.specs.Steps.{Input, inputOf}
 use Rattle.meaning.specs.Run.{Ran}
 use Rattle.simulator.specs.declared.Stepped.{Stepped}
 use Rattle.simulator.specs.declared.Stepped.TheVariants as R
@@ -36,31 +36,31 @@ module _ (ws ps us os : List ℕ) (n i s : ℕ) (es out : List ℕ) where
   unfolding runIndex
   run-end-trace all inv h = rw (drop_of_length-le es h) at inv
 
-  module _ (r : Stepped) (h : i < length es) (er : steppedSays s (input_of (get_or es i 0)) r ≡ stepIndex ws ps us os n i s (get_or es i 0)) where
+  module _ (r : Stepped) (h : i < length es) (er : steppedSays s (inputOf (get_or es i 0)) r ≡ stepIndex ws ps us os n i s (get_or es i 0)) where
     -- an event is done
     module _ (t : ℕ) (e : r ≡ R.State t) where
-      run_on : runIndex ws ps us os n i s (drop i es)
+      run-on : runIndex ws ps us os n i s (drop i es)
           ≡ record {
             done = t ∷ (runIndex ws ps us os n (i + 1) t (drop (i + 1) es)).done;
             last = (runIndex ws ps us os n (i + 1) t (drop (i + 1) es)).last;
           }
       unfolding runIndex steppedSays
-      run_on = let p : stepIndex ws ps us os n i s (get_or es i 0) ≡ ok t = sym er ∙ rw e in rw (drop-cons es i 0 h, p, add-one i, runIndex)
+      run-on = let p : stepIndex ws ps us os n i s (get_or es i 0) ≡ ok t = sym er ∙ rw e in rw (drop-cons es i 0 h, p, add-one i, runIndex)
 
       pub run-on-answer : (all : Outcome ℕ) → (runIndex ws ps us os n i s (drop i es)).last ≡ all
           → (runIndex ws ps us os n (i + 1) t (drop (i + 1) es)).last ≡ all
-      run-on-answer all inv = sym (ap (λ (q : Ran). q.last) run_on) ∙ inv
+      run-on-answer all inv = sym (ap (λ (q : Ran). q.last) run-on) ∙ inv
 
       pub run-on-trace : (all : List ℕ) → sets out i (runIndex ws ps us os n i s (drop i es)).done ≡ all
           → sets (set out i t) (i + 1) (runIndex ws ps us os n (i + 1) t (drop (i + 1) es)).done ≡ all
-      run-on-trace all inv = rw (add-one i) (rw (run_on, add-one i) at inv)
+      run-on-trace all inv = rw (add-one i) (rw (run-on, add-one i) at inv)
 
     -- an event is refused
     module _ (h' : Stopped r) where
-      run-stop : runIndex ws ps us os n i s (drop i es) ≡ record { done = []; last = steppedSays s (input_of (get_or es i 0)) r }
+      run-stop : runIndex ws ps us os n i s (drop i es) ≡ record { done = []; last = steppedSays s (inputOf (get_or es i 0)) r }
       unfolding runIndex
       run-stop =
-          let p = stopped-refuses s (input_of (get_or es i 0)) r h' in
+          let p = stopped-refuses s (inputOf (get_or es i 0)) r h' in
           let q : stepIndex ws ps us os n i s (get_or es i 0) ≡ refuse p.0 p.1 = sym er ∙ p.2 in
           rw (drop-cons es i 0 h, q, p.2, runIndex)
 

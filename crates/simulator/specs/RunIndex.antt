@@ -1,7 +1,7 @@
 -- A run as the code works it out over the index of a set: the meaning's run, step by step with the index's step.
 use Rattle.std.specs.Prelude.{ℕ, suc, List, [], ◌∷◌}
 use Rattle.meaning.specs.Answers.{Outcome, ok, refuse}
-use Rattle.meaning.specs.Steps.{input_of}
+use Rattle.meaning.specs.Steps.{inputOf}
 use Rattle.meaning.specs.Run.{Ran}
 use Rattle.simulator.specs.declared.run.Ended.{Ended}
 use Rattle.simulator.specs.declared.run.Ended.TheVariants as E
@@ -10,7 +10,7 @@ use Rattle.simulator.specs.StepIndex.{steppedSays, stepIndex}
 -- the answer of a run: a refused step's is that of the step, from the state before it by its word
 unfoldable pub endedSays : Ended → Outcome ℕ
 endedSays (E.Last t) = ok t
-endedSays (E.Refused s w r) = steppedSays s (input_of w) r
+endedSays (E.Refused s w r) = steppedSays s (inputOf w) r
 
 -- the events from number i on, from state s
 unfoldable pub runIndex : List ℕ → List ℕ → List ℕ → List ℕ → ℕ → ℕ → ℕ → List ℕ → Ran

@@ -2,11 +2,11 @@
 use Rattle.std.specs.Prelude.{ℕ, ◌%◌, List, [], ◌∷◌}
 use Rattle.word.specs.Fields as W
 use Rattle.meaning.specs.Answers.{Outcome, ok, refuse, ◌>>=◌, demand}
-use Rattle.meaning.specs.Searches.{list_of}
+use Rattle.meaning.specs.Searches.{listOf}
 use Rattle.meaning.specs.States.{Values}
-use Rattle.meaning.specs.Steps.{Input, input_of}
+use Rattle.meaning.specs.Steps.{Input, inputOf}
 use Rattle.index.specs.Numbers.{word-numbers}
-use Rattle.state.specs.Held.{digitAt, number_at, enabledAt}
+use Rattle.state.specs.Held.{digitAt, numberAt, enabledAt}
 use Rattle.simulator.specs.declared.Stepped.{Stepped}
 use Rattle.simulator.specs.declared.Stepped.TheVariants as R
 use Rattle.simulator.specs.Walks.{walkSays, stateWalk, stepWalk}
@@ -22,15 +22,15 @@ steppedSays s e (R.StepOverlap v i j) = refuse 12 (s ∷ e.variable ∷ e.value 
 -- from the values a of state s by event word w
 unfoldable pub afterIndex : List ℕ → List ℕ → List ℕ → List ℕ → ℕ → ℕ → ℕ → Values → Outcome ℕ
 afterIndex ws ps us os n s w a =
-    walkSays 1 s (input_of w) (stepWalk ws ps a (W.variable w) (W.value w) os a) >>= λ b. ok (number_at ws ps us b n % word-numbers)
+    walkSays 1 s (inputOf w) (stepWalk ws ps a (W.variable w) (W.value w) os a) >>= λ b. ok (numberAt ws ps us b n % word-numbers)
 
 -- from state s by event word w, number i of its list
 unfoldable pub stepIndex : List ℕ → List ℕ → List ℕ → List ℕ → ℕ → ℕ → ℕ → ℕ → Outcome ℕ
 stepIndex ws ps us os n i s w =
     demand (enabledAt ws ps us n s w) 16 (i ∷ []) >>= λ _.
-    walkSays 0 s (input_of w) (stateWalk ws ps us s os (list_of (digitAt ws ps us s) n)) >>= λ a.
+    walkSays 0 s (inputOf w) (stateWalk ws ps us s os (listOf (digitAt ws ps us s) n)) >>= λ a.
     afterIndex ws ps us os n s w a
 
 -- the values of state s, or its first gap or overlap
 unfoldable pub examined : List ℕ → List ℕ → List ℕ → List ℕ → ℕ → ℕ → Outcome Values
-examined ws ps us os n s = walkSays 0 s (input_of 0) (stateWalk ws ps us s os (list_of (digitAt ws ps us s) n))
+examined ws ps us os n s = walkSays 0 s (inputOf 0) (stateWalk ws ps us s os (listOf (digitAt ws ps us s) n))

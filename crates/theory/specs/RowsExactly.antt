@@ -10,19 +10,19 @@ use Rattle.std.proofs.Math.Decide.{dec_le}
 use Rattle.std.proofs.Math.ListN.{length, get_or-eq_default}
 use Rattle.word.specs.Fields as W
 use Rattle.meaning.specs.Answers.{Outcome, ok, refuse, fine, if◌then◌else◌}
-use Rattle.meaning.specs.Searches.{least, or_else, mem}
+use Rattle.meaning.specs.Searches.{least, orElse, mem}
 use Rattle.meaning.specs.Syntax.{Variable, Table, TableSet}
-use Rattle.meaning.specs.Lookup.{definedBy, table_of, is_some, hasTable}
+use Rattle.meaning.specs.Lookup.{definedBy, tableOf, isSome, hasTable}
 use Rattle.meaning.specs.Reading.{word, readTable}
 use Rattle.meaning.specs.States.{readSet}
-use Rattle.meaning.specs.Calls.{isTableOf, endsTable, partLength, partFrom, rowsIf, rows_of}
+use Rattle.meaning.specs.Calls.{isTableOf, endsTable, partLength, partFrom, rowsIf, rowsOf}
 use Rattle.meaning.specs.TableWords.{Follow, nothing, more, EndsAt, next-table, first-assertion, end-of-words, TablePart}
 use Rattle.meaning.specs.Passes.{Reads}
 use Rattle.meaning.specs.Demand1.{RowsAnswers}
 use Rattle.theory.specs.Tests.{true-not-false, otherwise, eqb-true, true-eqb}
 use Rattle.theory.specs.Found.{least-nothing, least-is}
 use Rattle.theory.specs.WellRead.{read-words}
-use Rattle.theory.specs.TablesRead.{bodyKinds, Kind, other-than, TableAt, read_at, Closing, Layout, layout}
+use Rattle.theory.specs.TablesRead.{bodyKinds, Kind, other-than, TableAt, read-at, Closing, Layout, layout}
 use Rattle.theory.specs.CheckExactly.{reads-exactly}
 use Rattle.theory.specs.ReadExactly.{read-refuses-exactly}
 
@@ -33,16 +33,16 @@ record Split (ts : List Table) (v : ℕ) : Type 0 where
   after : List Table
   all : ts ≡ before ++ (table ∷ after)
   its : definedBy table ≡ v
-  none_before : hasTable before v ≡ false
+  none-before : hasTable before v ≡ false
 
 split : (ts : List Table) (v : ℕ) → hasTable ts v ≡ true → Split ts v
-unfolding hasTable table_of is_some
+unfolding hasTable tableOf isSome
 split [] v h = absurd (true-not-false h refl)
 split (t ∷ ts) v h = go (eqb (definedBy t) v) refl (λ k. split ts v k) h
   where
-    go : (b : Bool) → eqb (definedBy t) v ≡ b → (is_some (table_of ts v) ≡ true → Split ts v)
-        → is_some (if b then (λ _. some t) else (λ _. table_of ts v)) ≡ true → Split (t ∷ ts) v
-    go true e ih k = record { before = []; table = t; after = ts; all = refl; its = eqb-true e; none_before = refl }
+    go : (b : Bool) → eqb (definedBy t) v ≡ b → (isSome (tableOf ts v) ≡ true → Split ts v)
+        → isSome (if b then (λ _. some t) else (λ _. tableOf ts v)) ≡ true → Split (t ∷ ts) v
+    go true e ih k = record { before = []; table = t; after = ts; all = refl; its = eqb-true e; none-before = refl }
     go false e ih k =
         let s = ih k in
         record {
@@ -51,15 +51,15 @@ split (t ∷ ts) v h = go (eqb (definedBy t) v) refl (λ k. split ts v k) h
           after = s.after;
           all = ap (λ (l : List Table). t ∷ l) s.all;
           its = s.its;
-          none_before = rw e s.none_before;
+          none-before = rw e s.none-before;
         }
 
 -- the first of tables none of which is v's, and the others
-none_of : (t : Table) (ts : List Table) (v : ℕ) → hasTable (t ∷ ts) v ≡ false → (eqb (definedBy t) v ≡ false) × (hasTable ts v ≡ false)
-unfolding hasTable table_of is_some
-none_of t ts v h = go (eqb (definedBy t) v) h
+none-of : (t : Table) (ts : List Table) (v : ℕ) → hasTable (t ∷ ts) v ≡ false → (eqb (definedBy t) v ≡ false) × (hasTable ts v ≡ false)
+unfolding hasTable tableOf isSome
+none-of t ts v h = go (eqb (definedBy t) v) h
   where
-    go : (b : Bool) → is_some (if b then (λ _. some t) else (λ _. table_of ts v)) ≡ false → (b ≡ false) × (is_some (table_of ts v) ≡ false)
+    go : (b : Bool) → isSome (if b then (λ _. some t) else (λ _. tableOf ts v)) ≡ false → (b ≡ false) × (isSome (tableOf ts v) ≡ false)
     go true k = absurd (true-not-false refl k)
     go false k = (refl, k)
 
@@ -81,9 +81,9 @@ module _ (ws : List ℕ) where
   unfolding isTableOf
   its-word v a e = rw (a.kind, a.defines) (true-eqb e)
 
-  other_word : (v : ℕ) {i j : ℕ} {t : Table} → TableAt ws i t j → eqb (definedBy t) v ≡ false → isTableOf ws v i ≡ false
+  other-word : (v : ℕ) {i j : ℕ} {t : Table} → TableAt ws i t j → eqb (definedBy t) v ≡ false → isTableOf ws v i ≡ false
   unfolding isTableOf
-  other_word v a e = rw (a.kind, a.defines) e
+  other-word v a e = rw (a.kind, a.defines) e
 
   module _ (vs : List Variable) where
     -- ---- tables read one after another
@@ -92,17 +92,17 @@ module _ (ws : List ℕ) where
     unfolding mem
     follow-none v nothing h n l m = let x : ⊥ = omega arith in absurd x
     follow-none v (more {i} {j} {k} {t} {ts} e f) h n l m =
-        go (λ p. follow-none v f (none_of t ts v h).1 n p m) (dec_le j n) (dec_le (suc i) n)
+        go (λ p. follow-none v f (none-of t ts v h).1 n p m) (dec_le j n) (dec_le (suc i) n)
       where
         a : TableAt ws i t j
-        a = read_at ws vs i t j e
+        a = read-at ws vs i t j e
 
         go : (j ≤ n → isTableOf ws v n ≡ false) → Dec (j ≤ n) → Dec (i < n) → isTableOf ws v n ≡ false
         go ih (yes p) q = ih p
         go ih (no p) (yes q) = other-kind v n (other-than ws 2 n refl (a.body.kinds n q (omega arith)))
         go ih (no p) (no q) =
             let x : i ≡ n = omega arith in
-            subst (λ (y : ℕ). isTableOf ws v y ≡ false) x (other_word v a (none_of t ts v h).0)
+            subst (λ (y : ℕ). isTableOf ws v y ≡ false) x (other-word v a (none-of t ts v h).0)
 
     record Parted (first : ℕ) (before : List Table) (t : Table) (after : List Table) (last : ℕ) : Type 0 where
       from : ℕ
@@ -129,7 +129,7 @@ module _ (ws : List ℕ) where
         go : Dec (n < lay.first) → Dec (n < lay.last) → isTableOf ws v n ≡ false
         go (yes p) q = before-tables n p
         go (no p) (yes q) = follow-none z.variables v lay.tables h n (omega arith) q
-        go (no p) (no q) = other-kind v n (lay.closing.no_table n (omega arith) l)
+        go (no p) (no q) = other-kind v n (lay.closing.no-table n (omega arith) l)
 
     -- where the table of v stands: no table word of v comes before it
     module _ (h : hasTable z.tables v ≡ true) where
@@ -147,30 +147,30 @@ module _ (ws : List ℕ) where
       abbrev To : ℕ
       To = place.to
 
-      at_place : TableAt ws From cut.table To
-      at_place = read_at ws z.variables From cut.table To place.here
+      at-place : TableAt ws From cut.table To
+      at-place = read-at ws z.variables From cut.table To place.here
 
       sooner-none : (n : ℕ) → n < From → isTableOf ws v n ≡ false
       sooner-none n l = elim (dec_le (suc n) lay.first) [
         | yes p ↦ before-tables n p
-        | no p ↦ follow-none z.variables v place.sooner cut.none_before n (omega arith) l
+        | no p ↦ follow-none z.variables v place.sooner cut.none-before n (omega arith) l
       ]
 
       other : (n : ℕ) → mem n bodyKinds ≡ false → (k : ℕ) → From < k → k < To → eqb (Kind ws k) n ≡ false
-      other n f k l m = other-than ws n k f (at_place.body.kinds k l m)
+      other n f k l m = other-than ws n k f (at-place.body.kinds k l m)
 
       between : (k : ℕ) → From < k → k < To → (Kind ws k ≡ 2 → ⊥) × (Kind ws k ≡ 10 → ⊥)
       unfolding mem
       between k l m = (λ e. true-not-false (true-eqb e) (other 2 refl k l m), λ e. true-not-false (true-eqb e) (other 10 refl k l m))
 
       rising : From < To
-      rising = omega (arith, at_place.body.some)
+      rising = omega (arith, at-place.body.some)
 
       inside : To ≤ length ws
       unfolding mem
       inside =
-          let l = at_place.body.some in
-          let k = word-inside bodyKinds (To - 1) refl (at_place.body.kinds (To - 1) (omega arith) (omega arith)) in
+          let l = at-place.body.some in
+          let k = word-inside bodyKinds (To - 1) refl (at-place.body.kinds (To - 1) (omega arith) (omega arith)) in
           omega arith
 
       ends : EndsAt ws To
@@ -181,15 +181,15 @@ module _ (ws : List ℕ) where
             | inl l ↦ let e : length ws ≡ To = omega (arith, inside) in subst (EndsAt ws) e end-of-words
             | inr e ↦ first-assertion e
           ]
-          go (more {t} e f) c = next-table (read_at ws z.variables To t _ e).kind
+          go (more {t} e f) c = next-table (read-at ws z.variables To t _ e).kind
 
       -- so the part's end is the first word after the table word that ends a table
       abbrev EndsAfter : ℕ → Bool
       EndsAfter k = endsTable ws (suc From + k)
 
-      not_yet : (k : ℕ) → k < To - suc From → EndsAfter k ≡ false
+      not-yet : (k : ℕ) → k < To - suc From → EndsAfter k ≡ false
       unfolding endsTable mem
-      not_yet k l =
+      not-yet k l =
           rw (other 2 refl (suc From + k) (omega arith) (omega arith), other 10 refl (suc From + k) (omega arith) (omega arith))
 
       ended : {k : ℕ} → EndsAt ws k → k < length ws → endsTable ws k ≡ true
@@ -198,23 +198,23 @@ module _ (ws : List ℕ) where
       ended (first-assertion e) l = rw e
       ended end-of-words l = let x : ⊥ = omega arith in absurd x
 
-      part_length : partLength ws From ≡ To - suc From
-      unfolding partLength or_else
-      part_length = go (dec_le (suc To) (length ws))
+      part-length : partLength ws From ≡ To - suc From
+      unfolding partLength orElse
+      part-length = go (dec_le (suc To) (length ws))
         where
-          go : Dec (To < length ws) → or_else (least EndsAfter (length ws - suc From)) (length ws - suc From) ≡ To - suc From
+          go : Dec (To < length ws) → orElse (least EndsAfter (length ws - suc From)) (length ws - suc From) ≡ To - suc From
           go (yes l) =
               let q : suc From + (To - suc From) ≡ To = omega (arith, rising) in
               let t : EndsAfter (To - suc From) ≡ true = rw q (ended ends l) in
-              rw (least-is EndsAfter (length ws - suc From) (To - suc From) (omega (arith, rising)) t not_yet)
-          go (no l) = let q : length ws ≡ To = omega (arith, inside) in rw (q, least-nothing EndsAfter (To - suc From) not_yet)
+              rw (least-is EndsAfter (length ws - suc From) (To - suc From) (omega (arith, rising)) t not-yet)
+          go (no l) = let q : length ws ≡ To = omega (arith, inside) in rw (q, least-nothing EndsAfter (To - suc From) not-yet)
 
       part-is : partFrom ws (least (isTableOf ws v) (length ws)) ≡ take (To - From) (drop From ws)
       unfolding partFrom
       part-is =
           let l : From < length ws = omega (arith, rising, inside) in
           let q : suc (To - suc From) ≡ To - From = omega (arith, rising) in
-          rw (least-is (isTableOf ws v) (length ws) From l (its-word v at_place cut.its) sooner-none, part_length, q)
+          rw (least-is (isTableOf ws v) (length ws) From l (its-word v at-place cut.its) sooner-none, part-length, q)
 
       table-part : TablePart ws z v (partFrom ws (least (isTableOf ws v) (length ws)))
       table-part = record {
@@ -236,7 +236,7 @@ module _ (ws : List ℕ) where
           last = lay.last;
           later = place.later;
         };
-        table-word = (at_place.kind, at_place.defines ∙ cut.its);
+        table-word = (at-place.kind, at-place.defines ∙ cut.its);
         between = between;
         ends = ends;
       }
@@ -248,8 +248,8 @@ module _ (ws : List ℕ) where
           omega (arith, rising)
 
 -- ---- rows
-pub rows-answers : (ws : List ℕ) (v : ℕ) → RowsAnswers ws v (rows_of ws v)
-unfolding rows_of rowsIf partFrom
+pub rows-answers : (ws : List ℕ) (v : ℕ) → RowsAnswers ws v (rowsOf ws v)
+unfolding rowsOf rowsIf partFrom
 rows-answers ws v = record {
   is-part = part (readSet ws);
   unread = λ n xs r. rw ((read-refuses-exactly ws n xs).1 r);

@@ -17,9 +17,9 @@ use Rattle.meaning.specs.Answers.{ok, fine, ◌>>>◌, expect}
 use Rattle.meaning.specs.Searches.{mem, within}
 use Rattle.meaning.specs.Syntax.{Event, Variable, Body, Table, condition-table, TableSet}
 use Rattle.meaning.specs.Lookup.{definedBy, hasTable, count}
-use Rattle.meaning.specs.Reading.{Read, word, fits, conditionKinds, eventKinds, conditionBy, eventBy, testOk, variableOk, row_ok, rows_by, body_of, eventTableBy, tableOk, tableFits, word_at, readVariables, readCondition, readEvent, readRow, readRows, read_body, readTable, read_tables, readAssertion, readAssertions, readWords}
+use Rattle.meaning.specs.Reading.{Read, word, fits, conditionKinds, eventKinds, conditionBy, eventBy, testOk, variableOk, rowOk, rowsBy, bodyOf, eventTableBy, tableOk, tableFits, wordAt, readVariables, readCondition, readEvent, readRow, readRows, readBody, readTable, readTables, readAssertion, readAssertions, readWords}
 use Rattle.meaning.specs.TableWords.{Follow, nothing, more}
-use Rattle.theory.specs.Tests.{otherwise, true-not-false, not-true, and-true, eqb-true, leb-true, below_suc, all_of, mem-among, mem-cons, mem-none}
+use Rattle.theory.specs.Tests.{otherwise, true-not-false, not-true, and-true, eqb-true, leb-true, below-suc, all-of, mem-among, mem-cons, mem-none}
 use Rattle.theory.specs.Sections.{sections}
 use Rattle.theory.specs.Readers.{Gives, gives, stops, expected, after, past, so, branches, decides, given-as, given}
 
@@ -41,8 +41,8 @@ module _ (ws : List ℕ) where
     pub some : i < j
     pub kinds : (k : ℕ) → i ≤ k → k < j → mem (Kind k) bodyKinds ≡ true
 
-  one_word : (kinds : List ℕ) (i : ℕ) → all_of (λ k. mem k bodyKinds) kinds ≡ true → mem (Kind i) kinds ≡ true → Spans i (suc i)
-  one_word kinds i sub h = record {
+  one-word : (kinds : List ℕ) (i : ℕ) → all-of (λ k. mem k bodyKinds) kinds ≡ true → mem (Kind i) kinds ≡ true → Spans i (suc i)
+  one-word kinds i sub h = record {
     some = omega arith;
     kinds = λ k l m.
         let e : i ≡ k = omega arith in
@@ -64,16 +64,16 @@ module _ (ws : List ℕ) where
   only-kind : (n i : ℕ) → mem (Kind i) (n ∷ []) ≡ true → Kind i ≡ n
   only-kind n i h = elim (mem-cons (Kind i) n [] h) [ inl p ↦ p | inr p ↦ absurd (mem-none (Kind i) p) ]
 
-  word_read : (kinds : List ℕ) (i : ℕ) → Gives (λ w. (w ≡ word ws i) × (mem (Kind i) kinds ≡ true)) (word_at ws kinds i)
-  unfolding word_at fits
-  word_read kinds i =
+  word-read : (kinds : List ℕ) (i : ℕ) → Gives (λ w. (w ≡ word ws i) × (mem (Kind i) kinds ≡ true)) (wordAt ws kinds i)
+  unfolding wordAt fits
+  word-read kinds i =
       after (expected (mem (Kind i) kinds && W.spare-clear (word ws i)) 2 i) λ _ e.
       gives (word ws i) (refl, (and-true (mem (Kind i) kinds) (W.spare-clear (word ws i)) e).0)
 
   -- one operand or two after the word at i
-  one_more : {A B : Type 0} {i : ℕ} (m : Read A) (f : A × ℕ → B) → Spans i (suc i) → Gives (λ r. Spans (suc i) r.1) m
+  one-more : {A B : Type 0} {i : ℕ} (m : Read A) (f : A × ℕ → B) → Spans i (suc i) → Gives (λ r. Spans (suc i) r.1) m
       → Gives {A = B × ℕ} (λ r. Spans i r.1) (m >>> λ r. fine (f r, r.1))
-  one_more m f s g = after g (λ r p. gives (f r, r.1) (joined s p))
+  one-more m f s g = after g (λ r p. gives (f r, r.1) (joined s p))
 
   two-more : {A B C : Type 0} {i : ℕ} (m : Read A) (k : ℕ → Read B) (f : A × ℕ → B × ℕ → C) → Spans i (suc i)
       → Gives (λ r. Spans (suc i) r.1) m → ((j : ℕ) → Gives (λ r. Spans j r.1) (k j))
@@ -89,38 +89,38 @@ module _ (ws : List ℕ) where
   -- from i on no table word stands, and an assertion at i if anything
   pub record Closing (i : ℕ) : Type 0 where
     pub starts : (length ws ≤ i) ⊎ (Kind i ≡ 10)
-    pub no_table : (k : ℕ) → i ≤ k → k < length ws → eqb (Kind k) 2 ≡ false
+    pub no-table : (k : ℕ) → i ≤ k → k < length ws → eqb (Kind k) 2 ≡ false
 
   at-end : {i : ℕ} → length ws ≤ i → Closing i
-  at-end l = record { starts = inl l; no_table = λ k h m. let x : ⊥ = omega arith in absurd x }
+  at-end l = record { starts = inl l; no-table = λ k h m. let x : ⊥ = omega arith in absurd x }
 
-  before_more : {i j : ℕ} → Kind i ≡ 10 → Spans (suc i) j → Closing j → Closing i
+  before-more : {i j : ℕ} → Kind i ≡ 10 → Spans (suc i) j → Closing j → Closing i
   unfolding mem
-  before_more {i} {j} e s h = record { starts = inr e; no_table = λ k l m. go k l m (dec_le j k) (dec_le (suc i) k) }
+  before-more {i} {j} e s h = record { starts = inr e; no-table = λ k l m. go k l m (dec_le j k) (dec_le (suc i) k) }
     where
       go : (k : ℕ) → i ≤ k → k < length ws → Dec (j ≤ k) → Dec (i < k) → eqb (Kind k) 2 ≡ false
-      go k l m (yes n) o = h.no_table k n m
+      go k l m (yes n) o = h.no-table k n m
       go k l m (no n) (yes o) = other-than 2 k refl (s.kinds k o (omega arith))
       go k l m (no n) (no o) = let q : i ≡ k = omega arith in subst (λ (x : ℕ). eqb (Kind x) 2 ≡ false) q (rw e)
 
   module _ (vs : List Variable) where
     condition-spans : (left i : ℕ) → Gives (λ r. Spans i r.1) (readCondition ws vs left i)
-    unfolding readCondition conditionBy all_of mem
-    condition-spans zero i = past (word_at ws conditionKinds i) (λ w. stops 4 i)
+    unfolding readCondition conditionBy all-of mem
+    condition-spans zero i = past (wordAt ws conditionKinds i) (λ w. stops 4 i)
     condition-spans (suc left) i =
-        after (word_read conditionKinds i) λ w h.
-        let s = one_word conditionKinds i refl h.1 in
+        after (word-read conditionKinds i) λ w h.
+        let s = one-word conditionKinds i refl h.1 in
         branches (eqb (W.kind w) 4) (λ _. past (expect (testOk vs w) 3 i) (λ _. gives _ s))
         (λ _. branches (eqb (W.kind w) 9) (λ _. gives _ s)
-        (λ _. branches (eqb (W.kind w) 5) (λ _. one_more (readCondition ws vs left (suc i)) _ s (condition-spans left (suc i)))
+        (λ _. branches (eqb (W.kind w) 5) (λ _. one-more (readCondition ws vs left (suc i)) _ s (condition-spans left (suc i)))
         (λ _. two-more (readCondition ws vs left (suc i)) (readCondition ws vs left) _ s (condition-spans left (suc i)) (condition-spans left))))
 
     event-spans : (left i : ℕ) → Gives (λ r. Spans i r.1) (readEvent ws vs left i)
-    unfolding readEvent eventBy all_of mem
-    event-spans zero i = past (word_at ws eventKinds i) (λ w. stops 4 i)
+    unfolding readEvent eventBy all-of mem
+    event-spans zero i = past (wordAt ws eventKinds i) (λ w. stops 4 i)
     event-spans (suc left) i =
-        after (word_read eventKinds i) λ w h.
-        let s = one_word eventKinds i refl h.1 in
+        after (word-read eventKinds i) λ w h.
+        let s = one-word eventKinds i refl h.1 in
         branches (eqb (W.kind w) 9) (λ _. past (expect (eqb (W.truth w) 0) 3 i) (λ _. gives _ s))
         (λ _. branches (eqb (W.kind w) 7)
         (λ _. two-more (readEvent ws vs left (suc i)) (readEvent ws vs left) _ s (event-spans left (suc i)) (event-spans left))
@@ -129,34 +129,34 @@ module _ (ws : List ℕ) where
 
     module _ {F : Type 0} (formula : ℕ → Read F) (spans : (i : ℕ) → Gives (λ r. Spans i r.1) (formula i)) (v m : ℕ) where
       row-spans : (left i : ℕ) → Gives (λ r. Spans i r.1 × (ltb 0 left ≡ true)) (readRow ws vs formula v m left i)
-      unfolding readRow all_of mem
+      unfolding readRow all-of mem
       row-spans left i =
-          after (word_read (3 ∷ []) i) λ w h.
+          after (word-read (3 ∷ []) i) λ w h.
           after (expected (ltb 0 left) 4 i) λ _ l.
-          past (expect (row_ok vs v m w) 3 i) λ _.
+          past (expect (rowOk vs v m w) 3 i) λ _.
           after (spans (suc i)) λ r p.
-          gives _ (joined (one_word (3 ∷ []) i refl h.1) p, l)
+          gives _ (joined (one-word (3 ∷ []) i refl h.1) p, l)
 
       rows-span : (left i : ℕ) → Gives (λ r. Spans i r.1) (readRows ws vs formula v m left i)
-      unfolding readRows rows_by
+      unfolding readRows rowsBy
       rows-span zero i = after (row-spans 0 i) (λ r h. absurd (true-not-false h.1 refl))
       rows-span (suc left) i =
           after (row-spans (suc left) i) λ r h.
           branches (eqb (Kind r.1) 3) (λ _. after (rows-span left r.1) (λ q k. gives _ (joined h.0 k))) (λ _. gives _ h.0)
 
-    body-spans : (w i : ℕ) → Gives (λ r. (definedBy r.0 ≡ W.defined w) × Spans i r.1) (read_body ws vs w i)
-    unfolding read_body body_of definedBy
+    body-spans : (w i : ℕ) → Gives (λ r. (definedBy r.0 ≡ W.defined w) × Spans i r.1) (readBody ws vs w i)
+    unfolding readBody bodyOf definedBy
     body-spans w i =
         branches (eqb (W.sort w) 3)
         (λ _. after (rows-span (readCondition ws vs Max.max-depth) (condition-spans Max.max-depth) (W.defined w) (W.class-read w) Max.max-rows i) λ r h.
-        gives (condition-table (body_of w r.0), r.1) (refl, h))
+        gives (condition-table (bodyOf w r.0), r.1) (refl, h))
         (λ _. after (rows-span (readEvent ws vs Max.max-depth) (event-spans Max.max-depth) (W.defined w) (W.class-read w) Max.max-rows i) λ r h.
-        gives _ (event-defined (eqb (W.sort w) 1) (body_of w r.0), h))
+        gives _ (event-defined (eqb (W.sort w) 1) (bodyOf w r.0), h))
 
     table-spans : (i : ℕ) (taken : Bool) → Gives (λ r. (taken ≡ false) × TableAt i r.0 r.1) (readTable ws vs i taken)
     unfolding readTable
     table-spans i taken =
-        after (word_read (2 ∷ []) i) λ w h.
+        after (word-read (2 ∷ []) i) λ w h.
         past (expect (tableOk vs w) 3 i) λ _.
         after (expected (tableFits vs w && not taken) 5 i) λ _ e.
         so (body-spans w (suc i)) λ r b. (
@@ -165,8 +165,8 @@ module _ (ws : List ℕ) where
         )
 
     -- ---- tables one after another
-    pub read_at : (i : ℕ) (t : Table) (j : ℕ) → readTable ws vs i false ≡ fine (t, j) → TableAt i t j
-    read_at i t j e = (given _ (table-spans i false) e).1
+    pub read-at : (i : ℕ) (t : Table) (j : ℕ) → readTable ws vs i false ≡ fine (t, j) → TableAt i t j
+    read-at i t j e = (given _ (table-spans i false) e).1
 
     -- the tables us are ts and those read from i on
     record Added (i : ℕ) (ts us : List Table) (k : ℕ) : Type 0 where
@@ -180,8 +180,8 @@ module _ (ws : List ℕ) where
     none-added : (i : ℕ) (ts : List Table) → Added i ts ts i
     none-added i ts = record { new = []; all = sym (append-nil ts); follow = nothing }
 
-    tables-follow : (left i : ℕ) (ts : List Table) → Gives (λ r. Added i ts r.0 r.1) (read_tables ws vs left i ts)
-    unfolding read_tables
+    tables-follow : (left i : ℕ) (ts : List Table) → Gives (λ r. Added i ts r.0 r.1) (readTables ws vs left i ts)
+    unfolding readTables
     tables-follow zero i ts =
         branches (eqb (Kind i) 2)
         (λ _. past (readTable ws vs i (hasTable ts (W.defined (word ws i)))) (λ _. stops 5 i))
@@ -200,7 +200,7 @@ module _ (ws : List ℕ) where
     assertion-closes : (left i : ℕ) → Gives (λ r. (ltb 0 left ≡ true) × (Kind i ≡ 10) × Spans (suc i) r.1) (readAssertion ws vs left i)
     unfolding readAssertion
     assertion-closes left i =
-        after (word_read (10 ∷ []) i) λ w h.
+        after (word-read (10 ∷ []) i) λ w h.
         after (expected (ltb 0 left) 4 i) λ _ l.
         past (expect (eqb (W.sort w) 1) 3 i) λ _.
         so (condition-spans Max.max-depth (suc i)) (λ r s. (l, only-kind 10 i h.1, s))
@@ -216,7 +216,7 @@ module _ (ws : List ℕ) where
         (λ _ e. gives ([], i) (at-end (leb-true e)))
         (λ _ e. after (assertion-closes (suc left) i) λ r h.
         after (assertions-close left r.1) λ q c.
-        gives _ (before_more h.1 h.2 c))
+        gives _ (before-more h.1 h.2 c))
 
   -- ---- variables
   -- words of variables stand up to the place after them
@@ -226,7 +226,7 @@ module _ (ws : List ℕ) where
   variables-below zero i vs h = branches (eqb (Kind i) 1) (λ _. stops 4 i) (λ _. gives (vs, i) h)
   variables-below (suc left) i vs h =
       decides (eqb (Kind i) 1)
-      (λ _ e. past (expect (variableOk (word ws i)) 3 i) λ _. variables-below left (suc i) _ (below_suc h (eqb-true e)))
+      (λ _ e. past (expect (variableOk (word ws i)) 3 i) λ _. variables-below left (suc i) _ (below-suc h (eqb-true e)))
       (λ _ e. gives (vs, i) h)
 
   -- ---- the whole: variables up to `first`, tables up to `last`, then assertions

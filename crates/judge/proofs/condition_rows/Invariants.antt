@@ -3,13 +3,13 @@ use Rattle.word.specs.Limits as Max
 use mathlib.Core.Path.{◌≡◌, refl}
 use Prim.Native.Nat.{◌≤◌, ◌-◌}
 use Rattle.judge.specs.declared.Got.TheVariants.{Nothing}
-use Rattle.judge.specs.Judge.{judgeAt, rows_at, conditionRowsAt}
-use Rattle.judge.proofs.Laws.{rows_out, rows_all, rows_end, rows_on}
+use Rattle.judge.specs.Judge.{judgeAt, rowsAt, conditionRowsAt}
+use Rattle.judge.proofs.Laws.{rows-out, rows-all, rows-end, rows-on}
 use Rattle.judge.proofs.condition_rows.Given as goal
 
 abbrev pub invariant-loop-i : goal.invariant-loop-i
 invariant-loop-i l = (l.i ≤ Max.max-rows)
-    × (rows_at l.words (judgeAt l.words l.values Max.max-depth) l.mode (Max.max-rows - l.i) l.i l.on l.got ≡ conditionRowsAt l.words l.values l.mode Max.max-rows 0 l.at Nothing)
+    × (rowsAt l.words (judgeAt l.words l.values Max.max-depth) l.mode (Max.max-rows - l.i) l.i l.on l.got ≡ conditionRowsAt l.words l.values l.mode Max.max-rows 0 l.at Nothing)
 
 abbrev pub decreases-loop-i : goal.decreases-loop-i
 decreases-loop-i l = Max.max-rows - l.i

@@ -3,8 +3,8 @@ use Rattle.word.specs.Limits as Max
 use mathlib.Core.Path.{◌≡◌, refl}
 use Prim.Native.Nat.{◌≤◌, ◌-◌}
 use Rattle.judge.specs.declared.Got.TheVariants.{Nothing}
-use Rattle.judge.specs.Judge.{judgeEventAt, rows_at, eventRowsAt}
-use Rattle.judge.proofs.Laws.{rows_out, rows_all, rows_end, rows_on}
+use Rattle.judge.specs.Judge.{judgeEventAt, rowsAt, eventRowsAt}
+use Rattle.judge.proofs.Laws.{rows-out, rows-all, rows-end, rows-on}
 use Rattle.judge.proofs.event_rows.Goals as goal
 
 pub loop-i-init : goal.loop-i-init
@@ -12,13 +12,13 @@ unfolding eventRowsAt
 loop-i-init c = (search rules, refl)
 
 pub returns-then-words-on : goal.returns-then-words-on
-returns-then-words-on c = search rows_out
+returns-then-words-on c = search rows-out
 
 pub returns-then-not-is_row : goal.returns-then-not-is_row
-returns-then-not-is_row c = search rows_end
+returns-then-not-is_row c = search rows-end
 
 pub loop-i-preserved : goal.loop-i-preserved
-loop-i-preserved c = (search rules, search rows_on)
+loop-i-preserved c = (search rules, search rows-on)
 
 pub returns : goal.returns
-returns c = search rows_all
+returns c = search rows-all

@@ -3,13 +3,13 @@ use Rattle.word.specs.Limits as Max
 use mathlib.Core.Path.{◌≡◌, refl}
 use Prim.Native.Nat.{◌≤◌, ◌-◌}
 use Rattle.judge.specs.declared.Got.TheVariants.{Nothing}
-use Rattle.judge.specs.Judge.{judgeEventAt, rows_at, eventRowsAt}
-use Rattle.judge.proofs.Laws.{rows_out, rows_all, rows_end, rows_on}
+use Rattle.judge.specs.Judge.{judgeEventAt, rowsAt, eventRowsAt}
+use Rattle.judge.proofs.Laws.{rows-out, rows-all, rows-end, rows-on}
 use Rattle.judge.proofs.event_rows.Given as goal
 
 abbrev pub invariant-loop-i : goal.invariant-loop-i
 invariant-loop-i l = (l.i ≤ Max.max-rows)
-    × (rows_at l.words (judgeEventAt l.words l.before l.after Max.max-depth) l.mode (Max.max-rows - l.i) l.i l.on l.got ≡ eventRowsAt l.words l.before l.after l.mode Max.max-rows 0 l.at Nothing)
+    × (rowsAt l.words (judgeEventAt l.words l.before l.after Max.max-depth) l.mode (Max.max-rows - l.i) l.i l.on l.got ≡ eventRowsAt l.words l.before l.after l.mode Max.max-rows 0 l.at Nothing)
 
 abbrev pub decreases-loop-i : goal.decreases-loop-i
 decreases-loop-i l = Max.max-rows - l.i

@@ -3,11 +3,11 @@ use mathlib.Core.Path.{◌≡◌}
 use mathlib.Core.Bool.{true}
 use Prim.Native.Nat.{◌≤◌, ◌-◌}
 use Rattle.order.specs.Orders.{covered}
-use Rattle.order.proofs.Takes.{covered_start, covered-no, covered-on, covered-all}
+use Rattle.order.proofs.Takes.{covered-start, covered-no, covered-on, covered-all}
 use Rattle.order.proofs.all_taken.Goals as goal
 
 pub loop-b-init : goal.loop-b-init
-loop-b-init c = (search rules, search covered_start)
+loop-b-init c = (search rules, search covered-start)
 
 pub returns-then-missing : goal.returns-then-missing
 returns-then-missing c = search covered-no

@@ -4,11 +4,11 @@ use mathlib.Core.Option.{none}
 use Prim.Native.Nat.{◌≤◌, ◌-◌}
 use Rattle.meaning.specs.Searches.{least}
 use Rattle.order.specs.Orders.{untakenBy}
-use Rattle.order.proofs.Takes.{least_start, stuck-found, stuck-on, stuck-none}
+use Rattle.order.proofs.Takes.{least-start, stuck-found, stuck-on, stuck-none}
 use Rattle.order.proofs.lowest_stuck.Goals as goal
 
 pub loop-v-init : goal.loop-v-init
-loop-v-init c = (search rules, search least_start)
+loop-v-init c = (search rules, search least-start)
 
 pub returns-then-untaken : goal.returns-then-untaken
 returns-then-untaken c = search stuck-found

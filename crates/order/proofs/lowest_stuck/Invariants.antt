@@ -4,7 +4,7 @@ use mathlib.Core.Option.{none}
 use Prim.Native.Nat.{◌≤◌, ◌-◌}
 use Rattle.meaning.specs.Searches.{least}
 use Rattle.order.specs.Orders.{untakenBy}
-use Rattle.order.proofs.Takes.{least_start, stuck-found, stuck-on, stuck-none}
+use Rattle.order.proofs.Takes.{least-start, stuck-found, stuck-on, stuck-none}
 use Rattle.order.proofs.lowest_stuck.Given as goal
 
 abbrev pub invariant-loop-v : goal.invariant-loop-v

@@ -4,11 +4,11 @@ use mathlib.Core.Option.{none}
 use Prim.Native.Nat.{◌≤◌, ◌-◌}
 use Rattle.meaning.specs.Searches.{least}
 use Rattle.order.specs.Orders.{stuckRead}
-use Rattle.order.proofs.Takes.{least_start, move-found, move-next, move-none}
+use Rattle.order.proofs.Takes.{least-start, move-found, move-next, move-none}
 use Rattle.order.proofs.move_on.Goals as goal
 
 pub loop-b-init : goal.loop-b-init
-loop-b-init c = (search rules, search least_start)
+loop-b-init c = (search rules, search least-start)
 
 pub returns-then-stuck_read : goal.returns-then-stuck_read
 returns-then-stuck_read c = search move-found

@@ -4,7 +4,7 @@ use mathlib.Core.Option.{none}
 use Prim.Native.Nat.{◌≤◌, ◌-◌}
 use Rattle.meaning.specs.Searches.{least, iterate}
 use Rattle.order.specs.Orders.{moveBy, homeBy}
-use Rattle.order.proofs.Takes.{least_start, moves-none, moves-on, back_found, back_on, back_none}
+use Rattle.order.proofs.Takes.{least-start, moves-none, moves-on, back-found, back-on, back-none}
 use Rattle.order.proofs.moves_back.Given as goal
 
 abbrev pub invariant-loop-k : goal.invariant-loop-k

@@ -4,7 +4,7 @@ use mathlib.Core.Option.{none}
 use Prim.Native.Nat.{◌≤◌, ◌-◌}
 use Rattle.meaning.specs.Searches.{least}
 use Rattle.order.specs.Orders.{readyBy}
-use Rattle.order.proofs.Takes.{least_start, ready-found, ready_on, ready-none}
+use Rattle.order.proofs.Takes.{least-start, ready-found, ready-on, ready-none}
 use Rattle.order.proofs.next_ready.Given as goal
 
 abbrev pub invariant-loop-v : goal.invariant-loop-v

@@ -3,7 +3,7 @@ use Rattle.word.specs.Limits as Max
 use mathlib.Core.Path.{◌≡◌, refl}
 use Prim.Native.Nat.{◌≤◌, ◌-◌}
 use Rattle.order.specs.Masks.{rowsMask}
-use Rattle.order.proofs.Scans.{rows-past, rows_last, rows_on, rows_all}
+use Rattle.order.proofs.Scans.{rows-past, rows-last, rows-on, rows-all}
 use Rattle.order.proofs.rows_mask.Goals as goal
 
 pub loop-i-init : goal.loop-i-init
@@ -13,10 +13,10 @@ pub returns-then-words-on : goal.returns-then-words-on
 returns-then-words-on c = search rows-past
 
 pub returns-then-kind-ne-ROW : goal.returns-then-kind-ne-ROW
-returns-then-kind-ne-ROW c = search rows_last
+returns-then-kind-ne-ROW c = search rows-last
 
 pub loop-i-preserved : goal.loop-i-preserved
-loop-i-preserved c = (search rules, search rows_on)
+loop-i-preserved c = (search rules, search rows-on)
 
 pub returns : goal.returns
-returns c = search rows_all
+returns c = search rows-all

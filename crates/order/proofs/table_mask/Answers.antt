@@ -1,9 +1,9 @@
-use Rattle.order.proofs.Scans.{table_none, table-condition, table-event}
+use Rattle.order.proofs.Scans.{table-none, table-condition, table-event}
 use borrow.Author.Rules.{rules}
 use Rattle.order.proofs.table_mask.Goals as goal
 
 pub returns-then-p-eq0 : goal.returns-then-p-eq0
-returns-then-p-eq0 c = search table_none
+returns-then-p-eq0 c = search table-none
 
 pub returns-then-t-eq-CONDITION_TABLE : goal.returns-then-t-eq-CONDITION_TABLE
 returns-then-t-eq-CONDITION_TABLE c = search table-condition

@@ -3,12 +3,12 @@ use Rattle.word.specs.Limits as Max
 use mathlib.Core.Path.{◌≡◌}
 use Prim.Native.Nat.{◌≤◌, ◌-◌}
 use lib.ListN.{length, take, length-set}
-use Rattle.order.specs.Orders.{mask_of, takeBy, order_by}
-use Rattle.order.proofs.Takes.{mask_start, order-start, mask-on, order-on, mask-stop, order-stop, mask-all, order-all}
+use Rattle.order.specs.Orders.{maskOf, takeBy, orderBy}
+use Rattle.order.proofs.Takes.{mask-start, order-start, mask-on, order-on, mask-stop, order-stop, mask-all, order-all}
 use Rattle.order.proofs.take_ready.Goals as goal
 
 pub loop-i-init : goal.loop-i-init
-loop-i-init c = (search rules, search rules, search mask_start, search order-start)
+loop-i-init c = (search rules, search rules, search mask-start, search order-start)
 
 pub returns-in-Nothing : goal.returns-in-Nothing
 returns-in-Nothing c = record { value = search mask-stop; order_after = search order-stop; order_len = search rules }

@@ -3,12 +3,12 @@ use Rattle.word.specs.Limits as Max
 use mathlib.Core.Path.{◌≡◌}
 use Prim.Native.Nat.{◌≤◌, ◌-◌}
 use lib.ListN.{length, take, length-set}
-use Rattle.order.specs.Orders.{mask_of, takeBy, order_by}
-use Rattle.order.proofs.Takes.{mask_start, order-start, mask-on, order-on, mask-stop, order-stop, mask-all, order-all}
+use Rattle.order.specs.Orders.{maskOf, takeBy, orderBy}
+use Rattle.order.proofs.Takes.{mask-start, order-start, mask-on, order-on, mask-stop, order-stop, mask-all, order-all}
 use Rattle.order.proofs.take_ready.Given as goal
 
 abbrev pub invariant-loop-i : goal.invariant-loop-i
-invariant-loop-i l = (l.i ≤ l.n) × (length l.order ≡ Max.max-variables) × (l.taken ≡ mask_of (take l.i l.order) 0) × (takeBy l.masks l.n (l.n - l.i) (take l.i l.order) ≡ order_by l.masks l.n)
+invariant-loop-i l = (l.i ≤ l.n) × (length l.order ≡ Max.max-variables) × (l.taken ≡ maskOf (take l.i l.order) 0) × (takeBy l.masks l.n (l.n - l.i) (take l.i l.order) ≡ orderBy l.masks l.n)
 
 abbrev pub decreases-loop-i : goal.decreases-loop-i
 decreases-loop-i l = l.n - l.i

@@ -4,7 +4,7 @@ use lib.ListN.{length}
 use Prim.Native.Nat.{◌≤◌, ◌-◌, ◌+◌}
 use mathlib.Core.Option.{none}
 use mathlib.Core.Path.{◌≡◌}
-use Rattle.part.proofs.Laws.{Ends, first-none, end-here, end_on, end_none}
+use Rattle.part.proofs.Laws.{Ends, first-none, end-here, end-on, end-none}
 use Rattle.part.proofs.part_end.Goals as goal
 
 pub loop-i-init : goal.loop-i-init
@@ -14,7 +14,7 @@ pub returns-then-ends_table : goal.returns-then-ends_table
 returns-then-ends_table c = search end-here
 
 pub loop-i-preserved : goal.loop-i-preserved
-loop-i-preserved c = (search rules, search rules, search end_on)
+loop-i-preserved c = (search rules, search rules, search end-on)
 
 pub returns : goal.returns
-returns c = search end_none
+returns c = search end-none

@@ -4,7 +4,7 @@ use lib.ListN.{length}
 use Prim.Native.Nat.{◌≤◌, ◌-◌, ◌+◌}
 use mathlib.Core.Option.{none}
 use mathlib.Core.Path.{◌≡◌}
-use Rattle.part.proofs.Laws.{Ends, first-none, end-here, end_on, end_none}
+use Rattle.part.proofs.Laws.{Ends, first-none, end-here, end-on, end-none}
 use Rattle.part.proofs.part_end.Given as goal
 
 abbrev pub invariant-loop-i : goal.invariant-loop-i

@@ -5,7 +5,7 @@ use lib.ListN.{length}
 use Prim.Native.Nat.{◌≤◌, ◌-◌}
 use mathlib.Core.Option.{none}
 use mathlib.Core.Path.{◌≡◌, refl}
-use Rattle.part.proofs.Laws.{start-here, start-on, start_none}
+use Rattle.part.proofs.Laws.{start-here, start-on, start-none}
 use Rattle.part.proofs.part_start.Goals as goal
 
 pub loop-i-init : goal.loop-i-init
@@ -18,4 +18,4 @@ pub loop-i-preserved : goal.loop-i-preserved
 loop-i-preserved c = (search rules, search start-on)
 
 pub returns : goal.returns
-returns c = search start_none
+returns c = search start-none

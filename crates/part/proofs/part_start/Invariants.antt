@@ -5,7 +5,7 @@ use lib.ListN.{length}
 use Prim.Native.Nat.{◌≤◌, ◌-◌}
 use mathlib.Core.Option.{none}
 use mathlib.Core.Path.{◌≡◌, refl}
-use Rattle.part.proofs.Laws.{start-here, start-on, start_none}
+use Rattle.part.proofs.Laws.{start-here, start-on, start-none}
 use Rattle.part.proofs.part_start.Given as goal
 
 abbrev pub invariant-loop-i : goal.invariant-loop-i

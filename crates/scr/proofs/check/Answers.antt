@@ -1,10 +1,10 @@
 use Rattle.scr.proofs.Demanded.{check-demand, demand-2}
-use Rattle.scr.proofs.Entering.{index_of, check-refused}
+use Rattle.scr.proofs.Entering.{index-of, check-refused}
 use borrow.Author.Rules.{rules}
 use Rattle.scr.proofs.check.Goals as goal
 
 pub verdict-requires : goal.verdict-requires
-verdict-requires c = search index_of
+verdict-requires c = search index-of
 
 pub returns-in-Refused : goal.returns-in-Refused
 returns-in-Refused c = record { result_value = search check-refused; answers_or_refuses = check-demand _ _ (search check-refused); demand2 = demand-2 _ _ (search check-refused) }

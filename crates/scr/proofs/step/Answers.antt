@@ -1,10 +1,10 @@
 use Rattle.scr.proofs.Demanded.{step-demand, steps-exactly}
-use Rattle.scr.proofs.Entering.{index_of, step-refused}
+use Rattle.scr.proofs.Entering.{index-of, step-refused}
 use borrow.Author.Rules.{rules}
 use Rattle.scr.proofs.step.Goals as goal
 
 pub step-requires : goal.step-requires
-step-requires c = search index_of
+step-requires c = search index-of
 
 pub returns-in-Refused : goal.returns-in-Refused
 returns-in-Refused c = record { result_value = search step-refused; answers_or_refuses = step-demand _ _ _ _ (search step-refused); steps_exactly = steps-exactly _ _ _ _ (search step-refused) }

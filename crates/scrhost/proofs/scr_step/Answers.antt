@@ -1,4 +1,4 @@
-use Rattle.scrhost.proofs.Hosting.{step-unfit, room, lent, step_words}
+use Rattle.scrhost.proofs.Hosting.{step-unfit, room, lent, step-words}
 use borrow.Author.Rules.{rules}
 use Rattle.scrhost.proofs.scr_step.Goals as goal
 
@@ -15,4 +15,4 @@ pub slice_bounds-step-end : goal.slice_bounds-step-end
 slice_bounds-step-end c = search lent
 
 pub returns : goal.returns
-returns c = search step_words
+returns c = search step-words

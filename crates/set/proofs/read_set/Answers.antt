@@ -1,4 +1,4 @@
-use Rattle.set.proofs.Laws.{set-refused, index-few, set-cycle, set_all}
+use Rattle.set.proofs.Laws.{set-refused, index-few, set-cycle, set-all}
 use borrow.Author.Rules.{rules}
 use Rattle.set.proofs.read_set.Goals as goal
 
@@ -9,7 +9,7 @@ pub returns-in-Refused : goal.returns-in-Refused
 returns-in-Refused c = search set-refused
 
 pub returns-in-All : goal.returns-in-All
-returns-in-All c = search set_all
+returns-in-All c = search set-all
 
 pub returns-in-Cycle : goal.returns-in-Cycle
 returns-in-Cycle c = search set-cycle

@@ -1,9 +1,9 @@
-use Rattle.simulator.proofs.Laws.{after_none, after-condition, after-event}
+use Rattle.simulator.proofs.Laws.{after-none, after-condition, after-event}
 use borrow.Author.Rules.{rules}
 use Rattle.simulator.proofs.given_after.Goals as goal
 
 pub returns-then-p-eq0 : goal.returns-then-p-eq0
-returns-then-p-eq0 c = search after_none
+returns-then-p-eq0 c = search after-none
 
 pub returns-then-sort-eq-CONDITION_TABLE : goal.returns-then-sort-eq-CONDITION_TABLE
 returns-then-sort-eq-CONDITION_TABLE c = search after-condition

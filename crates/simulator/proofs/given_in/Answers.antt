@@ -1,4 +1,4 @@
-use Rattle.simulator.proofs.Laws.{in-none, in_held, in-condition}
+use Rattle.simulator.proofs.Laws.{in-none, in-held, in-condition}
 use borrow.Author.Rules.{rules}
 use Rattle.simulator.proofs.given_in.Goals as goal
 
@@ -6,7 +6,7 @@ pub returns-then-p-eq0 : goal.returns-then-p-eq0
 returns-then-p-eq0 c = search in-none
 
 pub returns-then-sort-ne-CONDITION_TABLE : goal.returns-then-sort-ne-CONDITION_TABLE
-returns-then-sort-ne-CONDITION_TABLE c = search in_held
+returns-then-sort-ne-CONDITION_TABLE c = search in-held
 
 pub returns : goal.returns
 returns c = search in-condition

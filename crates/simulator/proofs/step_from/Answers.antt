@@ -1,4 +1,4 @@
-use Rattle.simulator.proofs.Laws.{not-enabled, from-gap, from-overlap, from_step, from-done}
+use Rattle.simulator.proofs.Laws.{not-enabled, from-gap, from-overlap, from-step, from-done}
 use borrow.Author.Rules.{rules}
 use Rattle.simulator.proofs.step_from.Goals as goal
 
@@ -12,7 +12,7 @@ pub returns-in-Overlap : goal.returns-in-Overlap
 returns-in-Overlap c = search from-overlap
 
 pub returns-in-StepOverlap : goal.returns-in-StepOverlap
-returns-in-StepOverlap c = search from_step
+returns-in-StepOverlap c = search from-step
 
 pub returns-in-Done : goal.returns-in-Done
 returns-in-Done c = search from-done

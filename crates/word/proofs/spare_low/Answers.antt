@@ -1,7 +1,7 @@
-use Rattle.word.proofs.Mask.{low_below}
+use Rattle.word.proofs.Mask.{low-below}
 use mathlib.Core.Path.{refl}
 use borrow.Author.Rules.{rules}
 use Rattle.word.proofs.spare_low.Goals as goal
 
 pub returns : goal.returns
-returns c = (refl, low_below c.args.k)
+returns c = (refl, low-below c.args.k)

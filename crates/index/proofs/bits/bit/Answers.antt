@@ -1,6 +1,6 @@
-use Rattle.index.proofs.BitLaws.{bit_is}
+use Rattle.index.proofs.BitLaws.{bit-is}
 use borrow.Author.Rules.{rules}
 use Rattle.index.proofs.bits.bit.Goals as goal
 
 pub returns : goal.returns
-returns c = search bit_is
+returns c = search bit-is

@@ -1,9 +1,9 @@
-use Rattle.index.proofs.HeldLaws.{held_none, held-some}
+use Rattle.index.proofs.HeldLaws.{held-none, held-some}
 use borrow.Author.Rules.{rules}
 use Rattle.index.proofs.held.is_held.Goals as goal
 
 pub returns-then-p-eq0 : goal.returns-then-p-eq0
-returns-then-p-eq0 c = search held_none
+returns-then-p-eq0 c = search held-none
 
 pub returns : goal.returns
 returns c = search held-some

@@ -4,7 +4,7 @@ use Prim.Native.Nat.{◌≤◌, ◌-◌}
 use Rattle.word.specs.Limits as Max
 use Rattle.index.specs.Places.{variablesTo}
 use Rattle.reader.specs.Formulas.{rowsReach}
-use Rattle.reader.proofs.RowLaws.{rows-refused, rows_end, rows_on, rows-over}
+use Rattle.reader.proofs.RowLaws.{rows-refused, rows-end, rows-on, rows-over}
 use Rattle.reader.proofs.rows.read_rows.Goals as goal
 
 pub loop-i-init : goal.loop-i-init
@@ -14,13 +14,13 @@ pub returns-in-Refused : goal.returns-in-Refused
 returns-in-Refused c = search rows-refused
 
 pub returns-then-kind-ne-ROW : goal.returns-then-kind-ne-ROW
-returns-then-kind-ne-ROW c = search rows_end
+returns-then-kind-ne-ROW c = search rows-end
 
 pub loop-i-preserved : goal.loop-i-preserved
 loop-i-preserved c =
     (
       search rules,
-      rows_on _ _ _ _ _ _ _ _ _ _ _ _ c.in-Next.is c.read_row-row.ensures c.word_at-w.ensures
+      rows-on _ _ _ _ _ _ _ _ _ _ _ _ c.in-Next.is c.read_row-row.ensures c.word_at-w.ensures
           c.kind.ensures c.if-kind-ne-ROW.false (search rules) (search rules),
     )
 

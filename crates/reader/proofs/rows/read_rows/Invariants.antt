@@ -4,7 +4,7 @@ use Prim.Native.Nat.{◌≤◌, ◌-◌}
 use Rattle.word.specs.Limits as Max
 use Rattle.index.specs.Places.{variablesTo}
 use Rattle.reader.specs.Formulas.{rowsReach}
-use Rattle.reader.proofs.RowLaws.{rows-refused, rows_end, rows_on, rows-over}
+use Rattle.reader.proofs.RowLaws.{rows-refused, rows-end, rows-on, rows-over}
 use Rattle.reader.proofs.rows.read_rows.Given as goal
 
 abbrev pub invariant-loop-i : goal.invariant-loop-i

@@ -5,7 +5,7 @@ use native.Mathlib.Nat.{sub-zero}
 use lib.ListN.{length, length-set}
 use Rattle.index.specs.Places.{place-count, variablesTo}
 use Rattle.reader.specs.Tables.{readPlaces}
-use Rattle.reader.proofs.TableLaws.{tables-past, tables_end, tables-refused, tables-on, tables-last-refused, tables-over, tables-kept, store-fits}
+use Rattle.reader.proofs.TableLaws.{tables-past, tables-end, tables-refused, tables-on, tables-last-refused, tables-over, tables-kept, store-fits}
 use Rattle.reader.proofs.tables.read_tables.Goals as goal
 
 pub loop-i-init : goal.loop-i-init
@@ -15,7 +15,7 @@ pub returns-then-words-on : goal.returns-then-words-on
 returns-then-words-on c = record { places_after = search tables-past; n_unchanged = search rules }
 
 pub returns-then-kind-ne-TABLE : goal.returns-then-kind-ne-TABLE
-returns-then-kind-ne-TABLE c = record { places_after = search tables_end; n_unchanged = search rules }
+returns-then-kind-ne-TABLE c = record { places_after = search tables-end; n_unchanged = search rules }
 
 pub returns-in-Refused : goal.returns-in-Refused
 returns-in-Refused c = record { places_after = search tables-refused; n_unchanged = search rules }
@@ -27,7 +27,7 @@ pub loop-i-preserved : goal.loop-i-preserved
 loop-i-preserved c = (search rules, simp length-set (search rules), search tables-kept, search tables-on)
 
 pub returns-then-kind-ne-TABLE-2 : goal.returns-then-kind-ne-TABLE-2
-returns-then-kind-ne-TABLE-2 c = record { places_after = search tables_end; n_unchanged = search rules }
+returns-then-kind-ne-TABLE-2 c = record { places_after = search tables-end; n_unchanged = search rules }
 
 pub returns-in-Refused-table : goal.returns-in-Refused-table
 returns-in-Refused-table c = record { places_after = search tables-last-refused; n_unchanged = search rules }

@@ -5,7 +5,7 @@ use native.Mathlib.Nat.{sub-zero}
 use lib.ListN.{length, length-set}
 use Rattle.index.specs.Places.{place-count, variablesTo}
 use Rattle.reader.specs.Tables.{readPlaces}
-use Rattle.reader.proofs.TableLaws.{tables-past, tables_end, tables-refused, tables-on, tables-last-refused, tables-over, tables-kept, store-fits}
+use Rattle.reader.proofs.TableLaws.{tables-past, tables-end, tables-refused, tables-on, tables-last-refused, tables-over, tables-kept, store-fits}
 use Rattle.reader.proofs.tables.read_tables.Given as goal
 
 abbrev pub invariant-loop-i : goal.invariant-loop-i

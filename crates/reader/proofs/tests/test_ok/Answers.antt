@@ -1,6 +1,6 @@
-use Rattle.reader.proofs.TestLaws.{test_fields}
+use Rattle.reader.proofs.TestLaws.{test-fields}
 use borrow.Author.Rules.{rules}
 use Rattle.reader.proofs.tests.test_ok.Goals as goal
 
 pub returns : goal.returns
-returns c = search test_fields
+returns c = search test-fields

@@ -1,17 +1,17 @@
 use borrow.Author.Rules.{rules}
-use Rattle.report.proofs.Words.{filled_none, filled_on, filled-all}
+use Rattle.report.proofs.Words.{filled-none, filled-on, filled-all}
 use mathlib.Core.Path.{◌≡◌, refl}
 use Prim.Native.Nat.{◌≤◌, ◌-◌}
 use lib.ListN.{length, take, length-set}
-use Rattle.meaning.specs.Searches.{list_of}
+use Rattle.meaning.specs.Searches.{listOf}
 use Rattle.meaning.specs.Program.{inputWord}
 use Rattle.report.proofs.input.fill.Goals as goal
 
 pub loop-i-init : goal.loop-i-init
-loop-i-init c = (search rules, refl, search filled_none)
+loop-i-init c = (search rules, refl, search filled-none)
 
 pub loop-i-preserved : goal.loop-i-preserved
-loop-i-preserved c = (search rules, simp length-set (search rules), search filled_on)
+loop-i-preserved c = (search rules, simp length-set (search rules), search filled-on)
 
 pub returns : goal.returns
 returns c = record { words_after = search filled-all; upper_bound = search rules }

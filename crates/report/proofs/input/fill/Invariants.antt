@@ -1,14 +1,14 @@
 use borrow.Author.Rules.{rules}
-use Rattle.report.proofs.Words.{filled_none, filled_on, filled-all}
+use Rattle.report.proofs.Words.{filled-none, filled-on, filled-all}
 use mathlib.Core.Path.{◌≡◌, refl}
 use Prim.Native.Nat.{◌≤◌, ◌-◌}
 use lib.ListN.{length, take, length-set}
-use Rattle.meaning.specs.Searches.{list_of}
+use Rattle.meaning.specs.Searches.{listOf}
 use Rattle.meaning.specs.Program.{inputWord}
 use Rattle.report.proofs.input.fill.Given as goal
 
 abbrev pub invariant-loop-i : goal.invariant-loop-i
-invariant-loop-i l = (l.i ≤ l.n) × (length l.words ≡ length l.initial.words) × (take l.i l.words ≡ list_of (inputWord l.bytes) l.i)
+invariant-loop-i l = (l.i ≤ l.n) × (length l.words ≡ length l.initial.words) × (take l.i l.words ≡ listOf (inputWord l.bytes) l.i)
 
 abbrev pub decreases-loop-i : goal.decreases-loop-i
 decreases-loop-i l = l.n - l.i

@@ -1,4 +1,4 @@
-use Rattle.report.proofs.Running.{done-16, done_none}
+use Rattle.report.proofs.Running.{done-16, done-none}
 use borrow.Author.Rules.{rules}
 use Rattle.report.proofs.runs.done_before.Goals as goal
 
@@ -6,4 +6,4 @@ pub returns-in-NotEnabled : goal.returns-in-NotEnabled
 returns-in-NotEnabled c = search done-16
 
 pub returns-in_default : goal.returns-in_default
-returns-in_default c = search done_none
+returns-in_default c = search done-none

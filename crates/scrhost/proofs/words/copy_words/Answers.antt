@@ -5,7 +5,7 @@ use Prim.Native.Nat.{◌≤◌, ◌-◌}
 use native.Mathlib.Nat.{sub-zero}
 use lib.ListN.{length, take, length-set}
 use Rattle.meaning.specs.Host.{wordsOfBytes}
-use Rattle.scrhost.proofs.Copying.{copied, copied_all}
+use Rattle.scrhost.proofs.Copying.{copied, copied-all}
 use Rattle.scrhost.proofs.words.copy_words.Goals as goal
 
 pub loop-i-init : goal.loop-i-init
@@ -15,4 +15,4 @@ pub loop-i-preserved : goal.loop-i-preserved
 loop-i-preserved c = (search rules, simp length-set (search rules), search copied)
 
 pub returns : goal.returns
-returns c = search copied_all
+returns c = search copied-all

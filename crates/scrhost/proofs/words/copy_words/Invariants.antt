@@ -5,7 +5,7 @@ use Prim.Native.Nat.{◌≤◌, ◌-◌}
 use native.Mathlib.Nat.{sub-zero}
 use lib.ListN.{length, take, length-set}
 use Rattle.meaning.specs.Host.{wordsOfBytes}
-use Rattle.scrhost.proofs.Copying.{copied, copied_all}
+use Rattle.scrhost.proofs.Copying.{copied, copied-all}
 use Rattle.scrhost.proofs.words.copy_words.Given as goal
 
 abbrev pub invariant-loop-i : goal.invariant-loop-i
