@@ -2,7 +2,7 @@
 
     python3 bench/calls.py [--seed N]
 
-Run from the root, after `rt check scrprobe scrcheck`, `rt staticlib scrhost` and `cargo build --offline --release` in tests/oracle; bench/run does
+Run from the root, after `./build` and `cargo build --offline --release` in tests/oracle; bench/run does
 all. The sets are `full` and `shift` of bench/sets.py. The run's answers must be the oracle's, every state of it, and the host's last state that of the run."""
 import argparse
 import random

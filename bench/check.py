@@ -2,7 +2,7 @@
 
     python3 bench/check.py [SET...] [--seed N] [--program COMMAND] [--fast COMMAND] [--naive COMMAND] [--without NAME...]
 
-Run from the root, after `rt check scrprobe` and `cargo build --offline --release` in tests/oracle; bench/run does all. The sets are those of
+Run from the root, after `./build scrprobe` and `cargo build --offline --release` in tests/oracle; bench/run does all. The sets are those of
 bench/sets.py, made by seed. Every checker must give the answer that a set is built for; of Spin, whether there is an error. The naive check
 is the oracle's plain one: all states, then all steps, then all steps again for each assertion, with every row judged."""
 import argparse

@@ -1,6 +1,6 @@
 """How long reading the largest set takes: a set of 4,096 words against one of a single word, by the probe's call `start`.
 
-Run after `rt check scrprobe`. The difference of the two is the reading of 4,095 words, with the bytes that carry them. With valgrind at hand
+Run after `./build scrprobe`. The difference of the two is the reading of 4,095 words, with the bytes that carry them. With valgrind at hand
 the instructions are counted too, which repeat exactly."""
 import re
 import shutil

@@ -21,7 +21,7 @@ def command(name):
     built = os.path.join(ROOT, "target", "bin", name)
     if not given and not os.path.exists(built):
         raise BadInput(
-            f"{built} is not there. It is proved and built by\n\n    cd {ROOT} && rt check {name}\n\n"
+            f"{built} is not there. It is proved and built by\n\n    cd {ROOT} && ./build {name}\n\n"
             f"rt comes with the Rattle toolchain. The environment variable {name.upper()} may name another program."
         )
     return given or [built]

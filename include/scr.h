@@ -1,7 +1,7 @@
 /*
  * The machine host: check a set of SCR mode tables and step it.
  *
- * Link with target/staticlib/libscrhost.a, which `rt staticlib scrhost` makes for x86-64 Linux. It needs memcpy and memset and nothing
+ * Link with target/staticlib/libscrhost.a, which `./build scrhost` makes for x86-64 Linux. It needs memcpy and memset and nothing
  * else.
  *
  * A set is given as bytes: a pointer and the number of bytes. Four bytes are a word, the lowest byte first, on every machine; the bytes

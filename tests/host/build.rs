@@ -1,4 +1,4 @@
-//! Links the static library that `rt staticlib scrhost` makes.
+//! Links the static library that `./build scrhost` makes.
 
 use std::path::Path;
 

@@ -21,7 +21,7 @@ from explain.source import as_bytes
 from words import assertion
 
 if not os.path.exists(PROVED):
-    sys.exit("build the program first: rt check scrcheck")
+    sys.exit("build the program first: ./build scrcheck")
 
 SET_A, STORED, BIGGEST, LONGEST, DEEPEST = set_a(), stored(), biggest(), longest_output(), deepest()
 # Bytes handed over at a time, again and again. Most break a word.

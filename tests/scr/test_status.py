@@ -92,7 +92,7 @@ class Status(ScrCase):
         with File(b"") as path:
             self.no_verdict("No such file", SET_A, program=path + ".not-there")
         if not os.path.exists(PROVED):
-            self.no_verdict("rt check scrcheck", SET_A, program=None)
+            self.no_verdict("./build scrcheck", SET_A, program=None)
 
     def test_a_program_that_gives_no_verdict(self):
         for program in ("true", "false", "echo HELLO", "echo PASS 1 2", "sh -c 'echo PASS 12 24 1; exit 1'"):

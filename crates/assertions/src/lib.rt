@@ -1,5 +1,6 @@
-#![tactic(auto)]
 // The assertions at given values. The first stands at `at`; the next begins where a formula ends.
+#![tactic(auto)]
+
 ghost use Rattle.std.specs.Prelude.{◌≡◌};
 ghost use Rattle.word.specs.Limits as Max;
 ghost use Rattle.assertions.specs.Assertions.{countFrom, falseFrom};

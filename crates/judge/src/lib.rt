@@ -1,6 +1,7 @@
-#![tactic(auto)]
 // Conditions, events and rows of a table, judged straight from the words of a set that has been read.
 // A formula is judged from its first word on; where it ends is found on the way, so no tree is built and no place is kept.
+#![tactic(auto)]
+
 ghost use Rattle.std.specs.Prelude.{◌≡◌, ◌&&◌, eqb};
 ghost use Rattle.word.specs.Fields as W;
 ghost use Rattle.word.specs.Limits as Max;

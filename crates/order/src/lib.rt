@@ -1,6 +1,7 @@
-#![tactic(auto)]
 // Which variable reads which, as one mask for each variable, with a bit for each that it reads; the dependency order; and the cycle shown where variables
 // are stuck (document 01, "States and steps", and refusal 9). All of it from the words of a set that has been read and its places.
+#![tactic(auto)]
+
 ghost use Rattle.std.specs.Prelude.{◌≡◌, not, ◌||◌, ◌≤◌, ◌<◌, length, get_or, take};
 ghost use Rattle.word.specs.Limits as Max;
 ghost use Rattle.index.specs.Bits.{bitIn};

@@ -1,5 +1,6 @@
-#![tactic(auto)]
 // The part of the words that is a table: from its table word to before the next table or assertion, or to the end.
+#![tactic(auto)]
+
 ghost use Rattle.std.specs.Prelude.{◌≡◌, ◌+◌, ◌<◌, length};
 ghost use Rattle.meaning.specs.Calls.{isTableOf, endsTable};
 ghost use Rattle.part.specs.Part.{startAt, endAt};

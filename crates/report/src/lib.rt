@@ -1,5 +1,6 @@
-#![tactic(auto)]
 // All that the program prints, made by one function of the bytes of its input.
+#![tactic(auto)]
+
 mod decimal; // decimal numbers into a buffer
 mod input; // bytes to words
 pub mod lines; // lines into a buffer

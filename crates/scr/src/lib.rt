@@ -1,7 +1,8 @@
-#![tactic(auto)]
 // The public face: the answers, and the entries with their promises. Every entry takes words, states, events and lists of every content and
 // length. It promises an equation for all that it gives and writes, and demand 1 (AnswersOrRefuses, RunAnswers, RowsAnswers); demands 2 and 3
 // stand where they speak of the entry.
+#![tactic(auto)]
+
 mod calls; // what is done once the set has been read
 mod opening; // reading the set
 mod refusals; // making refusals

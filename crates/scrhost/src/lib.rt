@@ -1,5 +1,6 @@
-#![tactic(auto)]
 // The machine host: check and step over bytes, for C. include/scr.h declares both functions.
+#![tactic(auto)]
+
 mod numbers; // answers as numbers
 mod words; // bytes to words
 

@@ -1,4 +1,3 @@
-#![tactic(auto)]
 // The probe: one entry called on arguments from standard input, and all of its effect printed, for tests and for the curious.
 //
 // The input is words of 32 bits, lowest byte first; what is missing counts as zeros:
@@ -12,6 +11,8 @@
 // The output is a line STATE s, VALUES n, ROWS place length (0 0 for the empty part), PASS states steps assertions or REFUSE number carried..,
 // then for run and values a line with the whole lent list, whose elements are 4294967295 and 238 before the call. Another call prints
 // nothing.
+#![tactic(auto)]
+
 mod calls; // each call and its lines
 mod input; // bytes to words
 mod text; // text into a buffer

@@ -1,5 +1,6 @@
-#![tactic(auto)]
 // The reading of a set, whole: refusals 1 to 9, and the index that everything above works with.
+#![tactic(auto)]
+
 ghost use Rattle.std.specs.Prelude.{◌≡◌, length};
 ghost use Rattle.word.specs.Limits as Max;
 ghost use Rattle.reader.specs.Typed.{noPlaces, noWeights};
