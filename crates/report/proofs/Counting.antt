@@ -1,16 +1,15 @@
 -- Of a set that passes, what a run answers tells how many events were done: all, or, by 16, as many as its index says; or, by 17, none.
-use mathlib.Core.Path.{◌≡◌, refl, sym, ap, ◌∙◌, subst}
-use mathlib.Core.Logic.{◌⊎◌, inl, inr}
-use mathlib.Core.List.{List, [], ◌∷◌, ◌++◌, append-nil}
+use mathlib.Core.Path.{◌≡◌, sym, ap, subst}
+use mathlib.Core.Logic.{inl, inr}
+use mathlib.Core.List.{List, [], ◌∷◌, append-nil}
 use Prim.Native.Nat.{ℕ, suc, ◌+◌, ◌-◌, ◌≤◌, ◌<◌}
 use native.Mathlib.Omega.{arith}
-use native.Mathlib.Nat.{sub-zero}
 use native.Mathlib.Decide.{dec_le}
 use lib.ListN.{length, take, drop}
 use lib.Seq.{sets, sets-eq, take_at}
 use borrow.Author.Tests.{lt-leb}
 use Rattle.word.specs.Limits as Max
-use Rattle.meaning.specs.Answers.{Outcome, ok, refuse, ◌>>=◌}
+use Rattle.meaning.specs.Answers.{Outcome, ok, refuse}
 use Rattle.meaning.specs.Syntax.{TableSet}
 use Rattle.meaning.specs.States.{stateCount, initialState, readSet}
 use Rattle.meaning.specs.Calls.{startOf}
@@ -18,7 +17,7 @@ use Rattle.meaning.specs.Run.{Ran, runFrom, runReady, ranOf, runOf}
 use Rattle.meaning.specs.Moved.{Course}
 use Rattle.meaning.specs.Passes.{Reads, Passes}
 use Rattle.meaning.specs.Demand3.{Answered, RunsInOrder}
-use Rattle.meaning.specs.Program.{eventLines, refuseLine, endLine, runLines}
+use Rattle.meaning.specs.Program.{eventLines, endLine, runLines}
 use Rattle.theory.specs.Tests.{true-leb, true-ltb}
 use Rattle.theory.specs.Found.{ok-same}
 use Rattle.theory.specs.WellRead.{read-well-formed}

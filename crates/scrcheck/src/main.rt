@@ -13,7 +13,9 @@ const NO_VERDICT: u8 = 2;
 // word too.
 fn judge<R: Read + Drop, W: Write>(alloc: Global, reader: R, writer: &mut W) -> io::Result<()> {
     let mut input = Vec::new(alloc);
-    reader.take(report::MAX_INPUT as u64).read_to_end(&mut input)?;
+    reader
+        .take(report::MAX_INPUT as u64)
+        .read_to_end(&mut input)?;
     let mut output = vec![in alloc; 0u8; report::MAX_OUTPUT]?;
     let end = report::report(&input, &mut output);
     writer.write_all(&output[..end])

@@ -29,7 +29,7 @@ use Rattle.simulator.specs.declared.Given.{Given}
 use Rattle.simulator.specs.declared.Given.TheVariants as G
 use Rattle.simulator.specs.declared.Settled.{Settled}
 use Rattle.simulator.specs.declared.Settled.TheVariants as S
-use Rattle.simulator.specs.Walks.{conditionOf, eventOf, conditionGiven, eventGiven, givenInBy, givenIn, givenAfterBy, givenAfter, Walk, done, at, joined, onward, walk, stateWalk, stepWalk, walkSays, settledSays}
+use Rattle.simulator.specs.Walks.{conditionOf, eventOf, conditionGiven, eventGiven, givenInBy, givenIn, givenAfterBy, givenAfter, Walk, done, joined, onward, walk, stateWalk, stepWalk, walkSays, settledSays}
 
 -- ---- what a table gives
 module _ (ws b : List ℕ) (w p m y mode : ℕ) (got : Got) (em : m ≡ W.class-read w) (ey : y ≡ get_or b m 0) (ex : mode ≡ y)

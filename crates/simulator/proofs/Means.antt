@@ -33,7 +33,7 @@ use Rattle.theory.specs.Valuations.{valuation-typed}
 use Rattle.theory.specs.StepExactly.{step-at-exactly}
 use Rattle.simulator.specs.declared.Given.{Given}
 use Rattle.simulator.specs.declared.Given.TheVariants as G
-use Rattle.simulator.specs.Walks.{conditionOf, eventOf, conditionGiven, eventGiven, givenInBy, givenIn, givenAfterBy, givenAfter, at, onward, walk, stateWalk, stepWalk, givenSays, settledSays, walkSays}
+use Rattle.simulator.specs.Walks.{conditionOf, eventOf, conditionGiven, eventGiven, givenInBy, givenIn, givenAfterBy, givenAfter, onward, walk, stateWalk, stepWalk, givenSays, settledSays, walkSays}
 use Rattle.simulator.specs.StepIndex.{afterIndex, stepIndex}
 use Rattle.meaning.specs.Run.{runFrom}
 use Rattle.simulator.specs.RunIndex.{runIndex}

@@ -1,9 +1,5 @@
 use borrow.Author.Rules.{rules}
-use Rattle.word.specs.Limits as Max
 use Rattle.assertions.proofs.Laws.{count-start, count-end, count-on, count-all}
-use Prim.Native.Nat.{◌≤◌, ◌-◌, ◌+◌}
-use mathlib.Core.Path.{◌≡◌}
-use Rattle.assertions.specs.Assertions.{countFrom}
 use Rattle.assertions.proofs.count_assertions.Goals as goal
 
 pub loop-j-init : goal.loop-j-init

@@ -1,6 +1,4 @@
-use borrow.Author.Rules.{rules}
 use Rattle.word.specs.Limits as Max
-use Rattle.assertions.proofs.Laws.{count-start, count-end, count-on, count-all}
 use Prim.Native.Nat.{◌≤◌, ◌-◌, ◌+◌}
 use mathlib.Core.Path.{◌≡◌}
 use Rattle.assertions.specs.Assertions.{countFrom}

@@ -1,8 +1,5 @@
 use borrow.Author.Rules.{rules}
 use Rattle.assertions.proofs.Laws.{false-start, false-end, false-here, false-on, false-all}
-use Prim.Native.Nat.{◌≤◌, ◌-◌, ◌+◌}
-use mathlib.Core.Path.{◌≡◌}
-use Rattle.assertions.specs.Assertions.{falseFrom}
 use Rattle.assertions.proofs.first_false.Goals as goal
 
 pub loop-j-init : goal.loop-j-init

@@ -1,5 +1,3 @@
-use borrow.Author.Rules.{rules}
-use Rattle.assertions.proofs.Laws.{false-start, false-end, false-here, false-on, false-all}
 use Prim.Native.Nat.{◌≤◌, ◌-◌, ◌+◌}
 use mathlib.Core.Path.{◌≡◌}
 use Rattle.assertions.specs.Assertions.{falseFrom}

@@ -1,5 +1,4 @@
 use Rattle.index.proofs.Laws.{past-none}
-use borrow.Author.Rules.{rules}
 use Rattle.index.proofs.number_at.Goals as goal
 
 pub returns-else-i-numbers : goal.returns-else-i-numbers

@@ -1,5 +1,4 @@
 use Rattle.index.proofs.Laws.{past-none}
-use borrow.Author.Rules.{rules}
 use Rattle.index.proofs.value_of.Goals as goal
 
 pub returns-else-v-values : goal.returns-else-v-values

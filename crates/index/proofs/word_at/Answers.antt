@@ -1,5 +1,4 @@
 use Rattle.index.proofs.Laws.{word-is}
-use borrow.Author.Rules.{rules}
 use Rattle.index.proofs.word_at.Goals as goal
 
 pub returns : goal.returns

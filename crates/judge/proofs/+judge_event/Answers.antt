@@ -1,6 +1,4 @@
-use borrow.Author.Rules.{rules}
 use Rattle.judge.proofs.Laws.{event-laws}
-use Prim.Native.Nat.{ℕ, ◌<◌}
 use Rattle.judge.proofs.+judge_event.Goals as goal
 
 pub returns-then-left-eq0 : goal.returns-then-left-eq0

@@ -1,6 +1,3 @@
-use borrow.Author.Rules.{rules}
-use Rattle.judge.proofs.Laws.{event-laws}
-use Prim.Native.Nat.{ℕ, ◌<◌}
 use Rattle.judge.proofs.+judge_event.Given as goal
 
 abbrev pub decreases-judge_event : goal.decreases-judge_event

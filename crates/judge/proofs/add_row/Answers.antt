@@ -1,5 +1,4 @@
 use Rattle.judge.proofs.Laws.{add-laws}
-use borrow.Author.Rules.{rules}
 use Rattle.judge.proofs.add_row.Goals as goal
 
 pub returns-then-not-h : goal.returns-then-not-h

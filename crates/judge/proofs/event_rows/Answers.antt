@@ -1,9 +1,6 @@
 use borrow.Author.Rules.{rules}
-use Rattle.word.specs.Limits as Max
-use mathlib.Core.Path.{◌≡◌, refl}
-use Prim.Native.Nat.{◌≤◌, ◌-◌}
-use Rattle.judge.specs.declared.Got.TheVariants.{Nothing}
-use Rattle.judge.specs.Judge.{judgeEventAt, rowsAt, eventRowsAt}
+use mathlib.Core.Path.{refl}
+use Rattle.judge.specs.Judge.{eventRowsAt}
 use Rattle.judge.proofs.Laws.{rows-out, rows-all, rows-end, rows-on}
 use Rattle.judge.proofs.event_rows.Goals as goal
 

@@ -1,10 +1,8 @@
-use borrow.Author.Rules.{rules}
 use Rattle.word.specs.Limits as Max
-use mathlib.Core.Path.{◌≡◌, refl}
+use mathlib.Core.Path.{◌≡◌}
 use Prim.Native.Nat.{◌≤◌, ◌-◌}
 use Rattle.judge.specs.declared.Got.TheVariants.{Nothing}
 use Rattle.judge.specs.Judge.{judgeEventAt, rowsAt, eventRowsAt}
-use Rattle.judge.proofs.Laws.{rows-out, rows-all, rows-end, rows-on}
 use Rattle.judge.proofs.event_rows.Given as goal
 
 abbrev pub invariant-loop-i : goal.invariant-loop-i

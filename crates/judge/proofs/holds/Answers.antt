@@ -1,5 +1,4 @@
 use Rattle.judge.proofs.Laws.{test-equal, test-most}
-use borrow.Author.Rules.{rules}
 use Rattle.judge.proofs.holds.Goals as goal
 
 pub returns-then-relation-eq-EQUALS : goal.returns-then-relation-eq-EQUALS

@@ -1,5 +1,4 @@
 use Rattle.judge.proofs.Laws.{row-law}
-use borrow.Author.Rules.{rules}
 use Rattle.judge.proofs.is_row.Goals as goal
 
 pub returns : goal.returns

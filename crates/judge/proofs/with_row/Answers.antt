@@ -1,5 +1,4 @@
 use Rattle.judge.proofs.Laws.{with-law}
-use borrow.Author.Rules.{rules}
 use Rattle.judge.proofs.with_row.Goals as goal
 
 pub returns : goal.returns

@@ -1,6 +1,3 @@
-use borrow.Author.Rules.{rules}
-use Rattle.order.proofs.Scans.{condition-laws}
-use Prim.Native.Nat.{ℕ, ◌<◌}
 use Rattle.order.proofs.+condition_mask.Given as goal
 
 abbrev pub decreases-condition_mask : goal.decreases-condition_mask

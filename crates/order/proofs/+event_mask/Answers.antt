@@ -1,6 +1,5 @@
 use borrow.Author.Rules.{rules}
 use Rattle.order.proofs.Scans.{event-laws}
-use Prim.Native.Nat.{ℕ, ◌<◌}
 use Rattle.order.proofs.+event_mask.Goals as goal
 
 pub returns-then-left-eq0 : goal.returns-then-left-eq0

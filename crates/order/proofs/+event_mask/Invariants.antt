@@ -1,6 +1,3 @@
-use borrow.Author.Rules.{rules}
-use Rattle.order.proofs.Scans.{event-laws}
-use Prim.Native.Nat.{ℕ, ◌<◌}
 use Rattle.order.proofs.+event_mask.Given as goal
 
 abbrev pub decreases-event_mask : goal.decreases-event_mask

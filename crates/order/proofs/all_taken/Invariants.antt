@@ -1,9 +1,7 @@
-use borrow.Author.Rules.{rules}
 use mathlib.Core.Path.{◌≡◌}
 use mathlib.Core.Bool.{true}
 use Prim.Native.Nat.{◌≤◌, ◌-◌}
 use Rattle.order.specs.Orders.{covered}
-use Rattle.order.proofs.Takes.{covered-start, covered-no, covered-on, covered-all}
 use Rattle.order.proofs.all_taken.Given as goal
 
 abbrev pub invariant-loop-b : goal.invariant-loop-b

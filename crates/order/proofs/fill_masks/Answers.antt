@@ -1,9 +1,6 @@
 use borrow.Author.Rules.{rules}
-use Rattle.word.specs.Limits as Max
-use mathlib.Core.Path.{◌≡◌}
-use Prim.Native.Nat.{◌≤◌, ◌-◌}
-use lib.ListN.{length, take, length-set}
-use Rattle.order.proofs.Scans.{masksTo, masks-none, masks-on, masks-all}
+use lib.ListN.{length-set}
+use Rattle.order.proofs.Scans.{masks-none, masks-on, masks-all}
 use Rattle.order.proofs.fill_masks.Goals as goal
 
 pub loop-v-init : goal.loop-v-init

@@ -1,9 +1,8 @@
-use borrow.Author.Rules.{rules}
 use Rattle.word.specs.Limits as Max
 use mathlib.Core.Path.{◌≡◌}
 use Prim.Native.Nat.{◌≤◌, ◌-◌}
-use lib.ListN.{length, take, length-set}
-use Rattle.order.proofs.Scans.{masksTo, masks-none, masks-on, masks-all}
+use lib.ListN.{length, take}
+use Rattle.order.proofs.Scans.{masksTo}
 use Rattle.order.proofs.fill_masks.Given as goal
 
 abbrev pub invariant-loop-v : goal.invariant-loop-v

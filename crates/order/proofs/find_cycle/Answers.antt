@@ -1,5 +1,4 @@
 use Rattle.order.proofs.Takes.{cycle-none, cycle-some}
-use borrow.Author.Rules.{rules}
 use Rattle.order.proofs.find_cycle.Goals as goal
 
 pub returns-in-Nothing : goal.returns-in-Nothing

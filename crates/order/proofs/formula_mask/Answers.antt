@@ -1,5 +1,4 @@
 use Rattle.order.proofs.Scans.{formula-condition, formula-event}
-use borrow.Author.Rules.{rules}
 use Rattle.order.proofs.formula_mask.Goals as goal
 
 pub returns-then-t-eq-CONDITION_TABLE : goal.returns-then-t-eq-CONDITION_TABLE

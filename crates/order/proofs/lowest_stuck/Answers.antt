@@ -1,9 +1,4 @@
 use borrow.Author.Rules.{rules}
-use mathlib.Core.Path.{◌≡◌}
-use mathlib.Core.Option.{none}
-use Prim.Native.Nat.{◌≤◌, ◌-◌}
-use Rattle.meaning.specs.Searches.{least}
-use Rattle.order.specs.Orders.{untakenBy}
 use Rattle.order.proofs.Takes.{least-start, stuck-found, stuck-on, stuck-none}
 use Rattle.order.proofs.lowest_stuck.Goals as goal
 

@@ -1,10 +1,8 @@
-use borrow.Author.Rules.{rules}
 use mathlib.Core.Path.{◌≡◌}
 use mathlib.Core.Option.{none}
 use Prim.Native.Nat.{◌≤◌, ◌-◌}
 use Rattle.meaning.specs.Searches.{least}
 use Rattle.order.specs.Orders.{untakenBy}
-use Rattle.order.proofs.Takes.{least-start, stuck-found, stuck-on, stuck-none}
 use Rattle.order.proofs.lowest_stuck.Given as goal
 
 abbrev pub invariant-loop-v : goal.invariant-loop-v

@@ -1,5 +1,4 @@
 use Rattle.order.proofs.Takes.{missing-is}
-use borrow.Author.Rules.{rules}
 use Rattle.order.proofs.missing.Goals as goal
 
 pub returns : goal.returns

@@ -1,10 +1,8 @@
-use borrow.Author.Rules.{rules}
 use mathlib.Core.Path.{◌≡◌}
 use mathlib.Core.Option.{none}
 use Prim.Native.Nat.{◌≤◌, ◌-◌}
 use Rattle.meaning.specs.Searches.{least}
 use Rattle.order.specs.Orders.{stuckRead}
-use Rattle.order.proofs.Takes.{least-start, move-found, move-next, move-none}
 use Rattle.order.proofs.move_on.Given as goal
 
 abbrev pub invariant-loop-b : goal.invariant-loop-b

@@ -1,9 +1,4 @@
 use borrow.Author.Rules.{rules}
-use mathlib.Core.Path.{◌≡◌}
-use mathlib.Core.Option.{none}
-use Prim.Native.Nat.{◌≤◌, ◌-◌}
-use Rattle.meaning.specs.Searches.{least, iterate}
-use Rattle.order.specs.Orders.{moveBy, homeBy}
 use Rattle.order.proofs.Takes.{least-start, moves-none, moves-on, back-found, back-on, back-none}
 use Rattle.order.proofs.moves_back.Goals as goal
 

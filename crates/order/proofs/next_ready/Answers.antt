@@ -1,9 +1,4 @@
 use borrow.Author.Rules.{rules}
-use mathlib.Core.Path.{◌≡◌}
-use mathlib.Core.Option.{none}
-use Prim.Native.Nat.{◌≤◌, ◌-◌}
-use Rattle.meaning.specs.Searches.{least}
-use Rattle.order.specs.Orders.{readyBy}
 use Rattle.order.proofs.Takes.{least-start, ready-found, ready-on, ready-none}
 use Rattle.order.proofs.next_ready.Goals as goal
 

@@ -1,5 +1,4 @@
 use Rattle.order.proofs.Takes.{ready-is}
-use borrow.Author.Rules.{rules}
 use Rattle.order.proofs.ready.Goals as goal
 
 pub returns : goal.returns

@@ -1,8 +1,5 @@
 use borrow.Author.Rules.{rules}
-use Rattle.word.specs.Limits as Max
-use mathlib.Core.Path.{◌≡◌, refl}
-use Prim.Native.Nat.{◌≤◌, ◌-◌}
-use Rattle.order.specs.Masks.{rowsMask}
+use mathlib.Core.Path.{refl}
 use Rattle.order.proofs.Scans.{rows-past, rows-last, rows-on, rows-all}
 use Rattle.order.proofs.rows_mask.Goals as goal
 

@@ -1,9 +1,7 @@
-use borrow.Author.Rules.{rules}
 use Rattle.word.specs.Limits as Max
-use mathlib.Core.Path.{◌≡◌, refl}
+use mathlib.Core.Path.{◌≡◌}
 use Prim.Native.Nat.{◌≤◌, ◌-◌}
 use Rattle.order.specs.Masks.{rowsMask}
-use Rattle.order.proofs.Scans.{rows-past, rows-last, rows-on, rows-all}
 use Rattle.order.proofs.rows_mask.Given as goal
 
 abbrev pub invariant-loop-i : goal.invariant-loop-i

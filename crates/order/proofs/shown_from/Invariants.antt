@@ -1,10 +1,8 @@
-use borrow.Author.Rules.{rules}
 use Rattle.word.specs.Limits as Max
 use mathlib.Core.Path.{◌≡◌}
 use Prim.Native.Nat.{◌≤◌, ◌-◌}
 use Rattle.meaning.specs.Searches.{iterate}
 use Rattle.order.specs.Orders.{moveBy}
-use Rattle.order.proofs.Takes.{moves-none, moves-on, moves-all}
 use Rattle.order.proofs.shown_from.Given as goal
 
 abbrev pub invariant-loop-i : goal.invariant-loop-i

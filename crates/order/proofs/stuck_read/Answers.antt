@@ -1,5 +1,4 @@
 use Rattle.order.proofs.Takes.{stuck-read-is}
-use borrow.Author.Rules.{rules}
 use Rattle.order.proofs.stuck_read.Goals as goal
 
 pub returns : goal.returns

@@ -1,5 +1,4 @@
 use Rattle.order.proofs.Scans.{table-none, table-condition, table-event}
-use borrow.Author.Rules.{rules}
 use Rattle.order.proofs.table_mask.Goals as goal
 
 pub returns-then-p-eq0 : goal.returns-then-p-eq0

@@ -1,9 +1,5 @@
 use borrow.Author.Rules.{rules}
-use Rattle.word.specs.Limits as Max
-use mathlib.Core.Path.{◌≡◌}
-use Prim.Native.Nat.{◌≤◌, ◌-◌}
-use lib.ListN.{length, take, length-set}
-use Rattle.order.specs.Orders.{maskOf, takeBy, orderBy}
+use lib.ListN.{length-set}
 use Rattle.order.proofs.Takes.{mask-start, order-start, mask-on, order-on, mask-stop, order-stop, mask-all, order-all}
 use Rattle.order.proofs.take_ready.Goals as goal
 

@@ -1,5 +1,4 @@
 use Rattle.order.proofs.Takes.{untaken-is}
-use borrow.Author.Rules.{rules}
 use Rattle.order.proofs.untaken.Goals as goal
 
 pub returns : goal.returns

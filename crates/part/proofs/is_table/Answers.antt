@@ -1,5 +1,4 @@
 use Rattle.part.proofs.Laws.{is-table-is}
-use borrow.Author.Rules.{rules}
 use Rattle.part.proofs.is_table.Goals as goal
 
 pub returns : goal.returns

@@ -1,10 +1,5 @@
 use borrow.Author.Rules.{rules}
-use Rattle.meaning.specs.Searches.{least}
-use lib.ListN.{length}
-use Prim.Native.Nat.{◌≤◌, ◌-◌, ◌+◌}
-use mathlib.Core.Option.{none}
-use mathlib.Core.Path.{◌≡◌}
-use Rattle.part.proofs.Laws.{Ends, first-none, end-here, end-on, end-none}
+use Rattle.part.proofs.Laws.{first-none, end-here, end-on, end-none}
 use Rattle.part.proofs.part_end.Goals as goal
 
 pub loop-i-init : goal.loop-i-init

@@ -1,10 +1,9 @@
-use borrow.Author.Rules.{rules}
 use Rattle.meaning.specs.Searches.{least}
 use lib.ListN.{length}
 use Prim.Native.Nat.{◌≤◌, ◌-◌, ◌+◌}
 use mathlib.Core.Option.{none}
 use mathlib.Core.Path.{◌≡◌}
-use Rattle.part.proofs.Laws.{Ends, first-none, end-here, end-on, end-none}
+use Rattle.part.proofs.Laws.{Ends}
 use Rattle.part.proofs.part_end.Given as goal
 
 abbrev pub invariant-loop-i : goal.invariant-loop-i

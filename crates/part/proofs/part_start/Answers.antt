@@ -1,10 +1,6 @@
 use borrow.Author.Rules.{rules}
-use Rattle.meaning.specs.Calls.{isTableOf}
 use Rattle.meaning.specs.Searches.{least}
-use lib.ListN.{length}
-use Prim.Native.Nat.{◌≤◌, ◌-◌}
-use mathlib.Core.Option.{none}
-use mathlib.Core.Path.{◌≡◌, refl}
+use mathlib.Core.Path.{refl}
 use Rattle.part.proofs.Laws.{start-here, start-on, start-none}
 use Rattle.part.proofs.part_start.Goals as goal
 

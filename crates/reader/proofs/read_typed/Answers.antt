@@ -1,5 +1,4 @@
 use Rattle.reader.proofs.Sets.{weights-long, read-few, typed-wrong, typed-refused, typed-set}
-use borrow.Author.Rules.{rules}
 use Rattle.reader.proofs.read_typed.Goals as goal
 
 pub count_states-counted-requires : goal.count_states-counted-requires

@@ -1,6 +1,5 @@
 use Rattle.reader.proofs.Whole.{words-none, words-over, words-variables, words-tables, words-assertions, words-all}
 use Rattle.reader.proofs.VariableLaws.{variables-few, variables-long}
-use borrow.Author.Rules.{rules}
 use Rattle.reader.proofs.read_words.Goals as goal
 
 pub returns-then-l-eq0 : goal.returns-then-l-eq0

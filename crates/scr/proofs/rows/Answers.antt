@@ -1,7 +1,6 @@
 use Rattle.scr.proofs.Demanded.{rows-demand}
 use Rattle.part.proofs.Laws.{end-after, end-within}
 use Rattle.scr.proofs.Entering.{rows-unread, rows-none, rows-part}
-use borrow.Author.Rules.{rules}
 use Rattle.scr.proofs.rows.Goals as goal
 
 pub returns-then-not-reads : goal.returns-then-not-reads

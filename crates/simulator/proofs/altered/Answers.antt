@@ -1,5 +1,4 @@
 use Rattle.simulator.proofs.Laws.{altered-other, altered-past, altered-here}
-use borrow.Author.Rules.{rules}
 use Rattle.simulator.proofs.altered.Goals as goal
 
 pub returns-then-v-variable : goal.returns-then-v-variable

@@ -1,5 +1,4 @@
 use Rattle.simulator.proofs.Laws.{condition-gap, condition-one, condition-two}
-use borrow.Author.Rules.{rules}
 use Rattle.simulator.proofs.by_condition.Goals as goal
 
 pub returns-in-Nothing : goal.returns-in-Nothing

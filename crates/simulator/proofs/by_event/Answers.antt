@@ -1,5 +1,4 @@
 use Rattle.simulator.proofs.Laws.{event-none, event-one, event-two}
-use borrow.Author.Rules.{rules}
 use Rattle.simulator.proofs.by_event.Goals as goal
 
 pub returns-in-Nothing : goal.returns-in-Nothing

@@ -1,4 +1,3 @@
-use borrow.Author.Rules.{rules}
 use Rattle.simulator.proofs.Laws.{front-whole}
 use Rattle.simulator.proofs.copy.Goals as goal
 

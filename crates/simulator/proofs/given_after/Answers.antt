@@ -1,5 +1,4 @@
 use Rattle.simulator.proofs.Laws.{after-none, after-condition, after-event}
-use borrow.Author.Rules.{rules}
 use Rattle.simulator.proofs.given_after.Goals as goal
 
 pub returns-then-p-eq0 : goal.returns-then-p-eq0

@@ -1,5 +1,4 @@
 use Rattle.simulator.proofs.Laws.{in-none, in-held, in-condition}
-use borrow.Author.Rules.{rules}
 use Rattle.simulator.proofs.given_in.Goals as goal
 
 pub returns-then-p-eq0 : goal.returns-then-p-eq0

@@ -1,8 +1,5 @@
 use borrow.Author.Rules.{rules}
-use Rattle.simulator.specs.Walks.{stateWalk}
-use lib.ListN.{length, drop}
-use Prim.Native.Nat.{◌≤◌, ◌-◌}
-use mathlib.Core.Path.{◌≡◌, refl}
+use mathlib.Core.Path.{refl}
 use Rattle.simulator.proofs.Laws.{kept-length, state-done, state-gap, state-overlap, state-step, state-on}
 use Rattle.simulator.proofs.settle_state.Goals as goal
 

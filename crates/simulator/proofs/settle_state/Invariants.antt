@@ -1,9 +1,7 @@
-use borrow.Author.Rules.{rules}
 use Rattle.simulator.specs.Walks.{stateWalk}
 use lib.ListN.{length, drop}
-use Prim.Native.Nat.{◌≤◌, ◌-◌}
-use mathlib.Core.Path.{◌≡◌, refl}
-use Rattle.simulator.proofs.Laws.{kept-length, state-done, state-gap, state-overlap, state-step, state-on}
+use Prim.Native.Nat.{◌≤◌}
+use mathlib.Core.Path.{◌≡◌}
 use Rattle.simulator.proofs.settle_state.Given as goal
 
 abbrev pub invariant-loop-i : goal.invariant-loop-i

@@ -1,8 +1,5 @@
 use borrow.Author.Rules.{rules}
-use Rattle.simulator.specs.Walks.{stepWalk}
-use lib.ListN.{length, drop}
-use Prim.Native.Nat.{◌≤◌, ◌-◌}
-use mathlib.Core.Path.{◌≡◌, refl}
+use mathlib.Core.Path.{refl}
 use Rattle.simulator.proofs.Laws.{kept-length, step-done, step-gap, step-overlap, step-step, step-on}
 use Rattle.simulator.proofs.settle_step.Goals as goal
 

@@ -1,5 +1,4 @@
 use Rattle.simulator.proofs.Laws.{state-is}
-use borrow.Author.Rules.{rules}
 use Rattle.simulator.proofs.state_of.Goals as goal
 
 pub returns : goal.returns

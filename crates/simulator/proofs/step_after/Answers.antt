@@ -1,5 +1,4 @@
 use Rattle.simulator.proofs.Laws.{after-gap, after-overlap, after-step, after-done}
-use borrow.Author.Rules.{rules}
 use Rattle.simulator.proofs.step_after.Goals as goal
 
 pub returns-in-Gap : goal.returns-in-Gap

@@ -1,5 +1,4 @@
 use Rattle.simulator.proofs.Laws.{not-enabled, from-gap, from-overlap, from-step, from-done}
-use borrow.Author.Rules.{rules}
 use Rattle.simulator.proofs.step_from.Goals as goal
 
 pub returns-then-not-is_enabled : goal.returns-then-not-is_enabled

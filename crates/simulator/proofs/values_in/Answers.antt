@@ -1,5 +1,4 @@
 use Rattle.simulator.proofs.Laws.{values-are, values-long}
-use borrow.Author.Rules.{rules}
 use Rattle.simulator.proofs.values_in.Goals as goal
 
 pub returns : goal.returns

@@ -1,8 +1,6 @@
 use borrow.Author.Rules.{rules}
-use lib.Seq.{sets}
-use lib.ListN.{length, drop, length-set}
-use Prim.Native.Nat.{◌≤◌, ◌-◌}
-use mathlib.Core.Path.{◌≡◌, refl}
+use lib.ListN.{length-set}
+use mathlib.Core.Path.{refl}
 use Rattle.simulator.proofs.Laws.{front-on, front-all}
 use Rattle.simulator.proofs.write_front.Goals as goal
 

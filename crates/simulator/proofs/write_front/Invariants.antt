@@ -1,9 +1,7 @@
-use borrow.Author.Rules.{rules}
 use lib.Seq.{sets}
-use lib.ListN.{length, drop, length-set}
-use Prim.Native.Nat.{◌≤◌, ◌-◌}
-use mathlib.Core.Path.{◌≡◌, refl}
-use Rattle.simulator.proofs.Laws.{front-on, front-all}
+use lib.ListN.{length, drop}
+use Prim.Native.Nat.{◌≤◌}
+use mathlib.Core.Path.{◌≡◌}
 use Rattle.simulator.proofs.write_front.Given as goal
 
 abbrev pub invariant-loop-i : goal.invariant-loop-i

@@ -1,5 +1,4 @@
 use Rattle.word.proofs.Mask.{kind-below, is-clear}
-use borrow.Author.Rules.{rules}
 use Rattle.word.proofs.spare_clear.Goals as goal
 
 pub spare_low-requires : goal.spare_low-requires

@@ -1,6 +1,5 @@
 use Rattle.word.proofs.Mask.{width-below}
 use mathlib.Core.Path.{refl}
-use borrow.Author.Rules.{rules}
 use Rattle.word.proofs.spare_width.Goals as goal
 
 pub returns : goal.returns

@@ -1,5 +1,4 @@
 use Rattle.index.proofs.BitLaws.{bit-none, bit-one}
-use borrow.Author.Rules.{rules}
 use Rattle.index.proofs.bits.one_bit.Goals as goal
 
 pub returns-then-v-ge-MAX_VARIABLES : goal.returns-then-v-ge-MAX_VARIABLES

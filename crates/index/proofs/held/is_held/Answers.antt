@@ -1,5 +1,4 @@
 use Rattle.index.proofs.HeldLaws.{held-none, held-some}
-use borrow.Author.Rules.{rules}
 use Rattle.index.proofs.held.is_held.Goals as goal
 
 pub returns-then-p-eq0 : goal.returns-then-p-eq0

@@ -1,5 +1,4 @@
 use Rattle.index.proofs.HeldLaws.{radix-held, radix-one}
-use borrow.Author.Rules.{rules}
 use Rattle.index.proofs.held.radix_of.Goals as goal
 
 pub returns-then-is_held : goal.returns-then-is_held

@@ -1,5 +1,4 @@
 use Rattle.reader.proofs.AssertionLaws.{assertion-laws}
-use borrow.Author.Rules.{rules}
 use Rattle.reader.proofs.assertions.read_assertion.Goals as goal
 
 pub returns-then-words-at : goal.returns-then-words-at

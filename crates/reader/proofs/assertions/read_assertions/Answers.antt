@@ -1,9 +1,5 @@
 use borrow.Author.Rules.{rules}
-use mathlib.Core.Path.{◌≡◌, refl}
-use Prim.Native.Nat.{◌≤◌, ◌-◌}
-use Rattle.word.specs.Limits as Max
-use Rattle.meaning.specs.Reading.{readAssertions}
-use Rattle.index.specs.Places.{reach, variablesTo}
+use mathlib.Core.Path.{refl}
 use Rattle.reader.proofs.AssertionLaws.{assertions-end, assertions-refused, assertions-on, assertions-over}
 use Rattle.reader.proofs.assertions.read_assertions.Goals as goal
 

@@ -1,10 +1,8 @@
-use borrow.Author.Rules.{rules}
-use mathlib.Core.Path.{◌≡◌, refl}
+use mathlib.Core.Path.{◌≡◌}
 use Prim.Native.Nat.{◌≤◌, ◌-◌}
 use Rattle.word.specs.Limits as Max
 use Rattle.meaning.specs.Reading.{readAssertions}
 use Rattle.index.specs.Places.{reach, variablesTo}
-use Rattle.reader.proofs.AssertionLaws.{assertions-end, assertions-refused, assertions-on, assertions-over}
 use Rattle.reader.proofs.assertions.read_assertions.Given as goal
 
 abbrev pub invariant-loop-i : goal.invariant-loop-i

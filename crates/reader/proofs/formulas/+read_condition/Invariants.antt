@@ -1,6 +1,3 @@
-use borrow.Author.Rules.{rules}
-use Rattle.reader.proofs.FormulaLaws.{conditions}
-use Prim.Native.Nat.{ℕ, ◌<◌}
 use Rattle.reader.proofs.formulas.+read_condition.Given as goal
 
 abbrev pub decreases-read_condition : goal.decreases-read_condition

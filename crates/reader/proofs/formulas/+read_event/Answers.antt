@@ -1,6 +1,4 @@
-use borrow.Author.Rules.{rules}
 use Rattle.reader.proofs.FormulaLaws.{events}
-use Prim.Native.Nat.{ℕ, ◌<◌}
 use Rattle.reader.proofs.formulas.+read_event.Goals as goal
 
 pub returns-then-words-at : goal.returns-then-words-at

@@ -1,5 +1,4 @@
 use Rattle.reader.proofs.FormulaLaws.{change-both, change-stop}
-use borrow.Author.Rules.{rules}
 use Rattle.reader.proofs.formulas.read_change.Goals as goal
 
 pub returns-in-Next : goal.returns-in-Next

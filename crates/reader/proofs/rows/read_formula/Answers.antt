@@ -1,5 +1,4 @@
 use Rattle.reader.proofs.RowLaws.{formula-condition, formula-event}
-use borrow.Author.Rules.{rules}
 use Rattle.reader.proofs.rows.read_formula.Goals as goal
 
 pub returns-then-t-eq-CONDITION_TABLE : goal.returns-then-t-eq-CONDITION_TABLE

@@ -1,5 +1,4 @@
 use Rattle.reader.proofs.RowLaws.{row-laws}
-use borrow.Author.Rules.{rules}
 use Rattle.reader.proofs.rows.read_row.Goals as goal
 
 pub returns-then-words-at : goal.returns-then-words-at

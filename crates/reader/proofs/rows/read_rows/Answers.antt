@@ -1,9 +1,5 @@
 use borrow.Author.Rules.{rules}
-use mathlib.Core.Path.{◌≡◌, refl}
-use Prim.Native.Nat.{◌≤◌, ◌-◌}
-use Rattle.word.specs.Limits as Max
-use Rattle.index.specs.Places.{variablesTo}
-use Rattle.reader.specs.Formulas.{rowsReach}
+use mathlib.Core.Path.{refl}
 use Rattle.reader.proofs.RowLaws.{rows-refused, rows-end, rows-on, rows-over}
 use Rattle.reader.proofs.rows.read_rows.Goals as goal
 
@@ -17,12 +13,11 @@ pub returns-then-kind-ne-ROW : goal.returns-then-kind-ne-ROW
 returns-then-kind-ne-ROW c = search rows-end
 
 pub loop-i-preserved : goal.loop-i-preserved
-loop-i-preserved c =
-    (
-      search rules,
-      rows-on _ _ _ _ _ _ _ _ _ _ _ _ c.in-Next.is c.read_row-row.ensures c.word_at-w.ensures
-          c.kind.ensures c.if-kind-ne-ROW.false (search rules) (search rules),
-    )
+loop-i-preserved c = (
+  search rules,
+  rows-on _ _ _ _ _ _ _ _ _ _ _ _ c.in-Next.is c.read_row-row.ensures c.word_at-w.ensures
+      c.kind.ensures c.if-kind-ne-ROW.false (search rules) (search rules),
+)
 
 pub returns : goal.returns
 returns c = search rows-over

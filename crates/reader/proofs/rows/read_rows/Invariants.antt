@@ -1,10 +1,8 @@
-use borrow.Author.Rules.{rules}
-use mathlib.Core.Path.{◌≡◌, refl}
+use mathlib.Core.Path.{◌≡◌}
 use Prim.Native.Nat.{◌≤◌, ◌-◌}
 use Rattle.word.specs.Limits as Max
 use Rattle.index.specs.Places.{variablesTo}
 use Rattle.reader.specs.Formulas.{rowsReach}
-use Rattle.reader.proofs.RowLaws.{rows-refused, rows-end, rows-on, rows-over}
 use Rattle.reader.proofs.rows.read_rows.Given as goal
 
 abbrev pub invariant-loop-i : goal.invariant-loop-i

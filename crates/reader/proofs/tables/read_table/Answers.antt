@@ -1,5 +1,4 @@
 use Rattle.reader.proofs.TableLaws.{table-laws}
-use borrow.Author.Rules.{rules}
 use Rattle.reader.proofs.tables.read_table.Goals as goal
 
 pub returns-then-words-at : goal.returns-then-words-at

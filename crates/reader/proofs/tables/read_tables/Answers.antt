@@ -1,10 +1,7 @@
 use borrow.Author.Rules.{rules}
-use mathlib.Core.Path.{◌≡◌, refl}
-use Prim.Native.Nat.{◌≤◌, ◌-◌}
+use mathlib.Core.Path.{refl}
 use native.Mathlib.Nat.{sub-zero}
-use lib.ListN.{length, length-set}
-use Rattle.index.specs.Places.{place-count, variablesTo}
-use Rattle.reader.specs.Tables.{readPlaces}
+use lib.ListN.{length-set}
 use Rattle.reader.proofs.TableLaws.{tables-past, tables-end, tables-refused, tables-on, tables-last-refused, tables-over, tables-kept, store-fits}
 use Rattle.reader.proofs.tables.read_tables.Goals as goal
 

@@ -1,11 +1,8 @@
-use borrow.Author.Rules.{rules}
-use mathlib.Core.Path.{◌≡◌, refl}
+use mathlib.Core.Path.{◌≡◌}
 use Prim.Native.Nat.{◌≤◌, ◌-◌}
-use native.Mathlib.Nat.{sub-zero}
-use lib.ListN.{length, length-set}
+use lib.ListN.{length}
 use Rattle.index.specs.Places.{place-count, variablesTo}
 use Rattle.reader.specs.Tables.{readPlaces}
-use Rattle.reader.proofs.TableLaws.{tables-past, tables-end, tables-refused, tables-on, tables-last-refused, tables-over, tables-kept, store-fits}
 use Rattle.reader.proofs.tables.read_tables.Given as goal
 
 abbrev pub invariant-loop-i : goal.invariant-loop-i

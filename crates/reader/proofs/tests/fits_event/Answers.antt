@@ -1,5 +1,4 @@
 use Rattle.reader.proofs.TestLaws.{event-kind}
-use borrow.Author.Rules.{rules}
 use Rattle.reader.proofs.tests.fits_event.Goals as goal
 
 pub returns : goal.returns

@@ -1,5 +1,4 @@
 use Rattle.reader.proofs.TestLaws.{one-kind}
-use borrow.Author.Rules.{rules}
 use Rattle.reader.proofs.tests.fits_kind.Goals as goal
 
 pub returns : goal.returns

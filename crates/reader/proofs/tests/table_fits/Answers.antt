@@ -1,5 +1,4 @@
 use Rattle.reader.proofs.TestLaws.{mode-table-fits, other-table-fits}
-use borrow.Author.Rules.{rules}
 use Rattle.reader.proofs.tests.table_fits.Goals as goal
 
 pub returns-then-sort-eq-MODE_TABLE : goal.returns-then-sort-eq-MODE_TABLE

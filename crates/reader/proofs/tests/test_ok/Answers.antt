@@ -1,5 +1,4 @@
 use Rattle.reader.proofs.TestLaws.{test-fields}
-use borrow.Author.Rules.{rules}
 use Rattle.reader.proofs.tests.test_ok.Goals as goal
 
 pub returns : goal.returns

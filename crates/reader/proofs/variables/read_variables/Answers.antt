@@ -1,12 +1,7 @@
 use borrow.Author.Rules.{rules}
-use mathlib.Core.Path.{◌≡◌, refl}
-use mathlib.Core.List.{[]}
-use Prim.Native.Nat.{◌≤◌, ◌-◌}
-use lib.ListN.{length, length-set}
-use Rattle.word.specs.Limits as Max
-use Rattle.meaning.specs.Reading.{readVariables}
-use Rattle.index.specs.Places.{place-count, variablesTo}
-use Rattle.reader.specs.Variables.{NoTables}
+use mathlib.Core.Path.{refl}
+use lib.ListN.{length-set}
+use Rattle.index.specs.Places.{variablesTo}
 use Rattle.reader.proofs.VariableLaws.{places-long, places-none, no-tables-on, variables-end, variables-bad, variables-on, variables-over, variables-all}
 use Rattle.reader.proofs.variables.read_variables.Goals as goal
 

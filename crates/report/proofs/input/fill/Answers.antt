@@ -1,10 +1,7 @@
 use borrow.Author.Rules.{rules}
 use Rattle.report.proofs.Words.{filled-none, filled-on, filled-all}
-use mathlib.Core.Path.{◌≡◌, refl}
-use Prim.Native.Nat.{◌≤◌, ◌-◌}
-use lib.ListN.{length, take, length-set}
-use Rattle.meaning.specs.Searches.{listOf}
-use Rattle.meaning.specs.Program.{inputWord}
+use mathlib.Core.Path.{refl}
+use lib.ListN.{length-set}
 use Rattle.report.proofs.input.fill.Goals as goal
 
 pub loop-i-init : goal.loop-i-init

@@ -1,8 +1,6 @@
-use borrow.Author.Rules.{rules}
-use Rattle.report.proofs.Words.{filled-none, filled-on, filled-all}
-use mathlib.Core.Path.{◌≡◌, refl}
+use mathlib.Core.Path.{◌≡◌}
 use Prim.Native.Nat.{◌≤◌, ◌-◌}
-use lib.ListN.{length, take, length-set}
+use lib.ListN.{length, take}
 use Rattle.meaning.specs.Searches.{listOf}
 use Rattle.meaning.specs.Program.{inputWord}
 use Rattle.report.proofs.input.fill.Given as goal

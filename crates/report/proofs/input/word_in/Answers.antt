@@ -1,5 +1,4 @@
 use Rattle.report.proofs.Words.{word-broken, word-whole}
-use borrow.Author.Rules.{rules}
 use Rattle.report.proofs.input.word_in.Goals as goal
 
 pub returns-then-bytes-at : goal.returns-then-bytes-at

@@ -1,5 +1,4 @@
 use Rattle.report.proofs.Printing.{event-put, event-room}
-use borrow.Author.Rules.{rules}
 use Rattle.report.proofs.lines.put_event.Goals as goal
 
 pub returns : goal.returns

@@ -1,11 +1,6 @@
 use borrow.Author.Rules.{rules}
 use Rattle.report.proofs.Printing.{events-on, events-end}
-use mathlib.Core.Path.{◌≡◌, refl}
-use Prim.Native.Nat.{◌≤◌, ◌+◌, ◌-◌, ◌*◌}
-use lib.ListN.{length, drop}
-use Rattle.meaning.specs.Program.{eventLines}
-use Rattle.report.specs.Room as Room
-use Rattle.report.specs.Text.{buffer, ◌with◌}
+use mathlib.Core.Path.{refl}
 use Rattle.report.proofs.lines.put_events.Goals as goal
 
 pub loop-i-init : goal.loop-i-init

@@ -1,10 +1,6 @@
 use borrow.Author.Rules.{rules}
 use Rattle.report.proofs.Printing.{fields-on, fields-end}
-use mathlib.Core.Path.{◌≡◌, refl}
-use Prim.Native.Nat.{◌≤◌, ◌+◌, ◌-◌, ◌*◌}
-use lib.ListN.{length, drop}
-use Rattle.meaning.specs.Program.{fields}
-use Rattle.report.specs.Text.{buffer, ◌with◌}
+use mathlib.Core.Path.{refl}
 use Rattle.report.proofs.lines.put_fields.Goals as goal
 
 pub loop-i-init : goal.loop-i-init

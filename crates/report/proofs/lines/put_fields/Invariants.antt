@@ -1,7 +1,5 @@
-use borrow.Author.Rules.{rules}
-use Rattle.report.proofs.Printing.{fields-on, fields-end}
-use mathlib.Core.Path.{◌≡◌, refl}
-use Prim.Native.Nat.{◌≤◌, ◌+◌, ◌-◌, ◌*◌}
+use mathlib.Core.Path.{◌≡◌}
+use Prim.Native.Nat.{◌≤◌, ◌+◌, ◌*◌}
 use lib.ListN.{length, drop}
 use Rattle.meaning.specs.Program.{fields}
 use Rattle.report.specs.Text.{buffer, ◌with◌}

@@ -1,9 +1,6 @@
 use borrow.Author.Rules.{rules}
 use Rattle.report.proofs.Printing.{name-none, name-on, name-all}
-use mathlib.Core.Path.{◌≡◌, refl}
-use Prim.Native.Nat.{◌≤◌, ◌+◌, ◌-◌}
-use lib.ListN.{length, take}
-use Rattle.report.specs.Text.{Puts}
+use mathlib.Core.Path.{refl}
 use Rattle.report.proofs.lines.put_name.Goals as goal
 
 pub loop-i-init : goal.loop-i-init

@@ -1,7 +1,5 @@
-use borrow.Author.Rules.{rules}
-use Rattle.report.proofs.Printing.{name-none, name-on, name-all}
-use mathlib.Core.Path.{◌≡◌, refl}
-use Prim.Native.Nat.{◌≤◌, ◌+◌, ◌-◌}
+use mathlib.Core.Path.{◌≡◌}
+use Prim.Native.Nat.{◌≤◌, ◌+◌}
 use lib.ListN.{length, take}
 use Rattle.report.specs.Text.{Puts}
 use Rattle.report.proofs.lines.put_name.Given as goal

@@ -1,11 +1,7 @@
 use borrow.Author.Rules.{rules}
 use Rattle.report.proofs.Parting.{event-here, event-on, event-none}
-use mathlib.Core.Path.{◌≡◌, refl}
-use mathlib.Core.Option.{none}
-use Prim.Native.Nat.{◌≤◌, ◌-◌}
-use lib.ListN.{length}
+use mathlib.Core.Path.{refl}
 use Rattle.meaning.specs.Searches.{least}
-use Rattle.report.specs.Input.{isEvent}
 use Rattle.report.proofs.parts.first_event.Goals as goal
 
 pub loop-i-init : goal.loop-i-init

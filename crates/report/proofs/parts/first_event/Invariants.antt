@@ -1,8 +1,6 @@
-use borrow.Author.Rules.{rules}
-use Rattle.report.proofs.Parting.{event-here, event-on, event-none}
-use mathlib.Core.Path.{◌≡◌, refl}
+use mathlib.Core.Path.{◌≡◌}
 use mathlib.Core.Option.{none}
-use Prim.Native.Nat.{◌≤◌, ◌-◌}
+use Prim.Native.Nat.{◌≤◌}
 use lib.ListN.{length}
 use Rattle.meaning.specs.Searches.{least}
 use Rattle.report.specs.Input.{isEvent}

@@ -1,5 +1,4 @@
 use Rattle.report.proofs.Parting.{is-event-is}
-use borrow.Author.Rules.{rules}
 use Rattle.report.proofs.parts.is_event.Goals as goal
 
 pub returns : goal.returns

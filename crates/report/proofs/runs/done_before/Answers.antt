@@ -1,5 +1,4 @@
 use Rattle.report.proofs.Running.{done-16, done-none}
-use borrow.Author.Rules.{rules}
 use Rattle.report.proofs.runs.done_before.Goals as goal
 
 pub returns-in-NotEnabled : goal.returns-in-NotEnabled

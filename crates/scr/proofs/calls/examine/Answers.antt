@@ -1,5 +1,4 @@
 use Rattle.scr.proofs.Calling.{gap-count, gap-kept, overlap-count, overlap-kept, step-count, step-kept, done-count, done-written}
-use borrow.Author.Rules.{rules}
 use Rattle.scr.proofs.calls.examine.Goals as goal
 
 pub returns-in-Gap : goal.returns-in-Gap

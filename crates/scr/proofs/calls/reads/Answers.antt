@@ -1,5 +1,4 @@
 use Rattle.scr.proofs.Calling.{reads-refused, reads-set}
-use borrow.Author.Rules.{rules}
 use Rattle.scr.proofs.calls.reads.Goals as goal
 
 pub returns-in-Refused : goal.returns-in-Refused

@@ -1,5 +1,4 @@
 use Rattle.scr.proofs.Calling.{start-state}
-use borrow.Author.Rules.{rules}
 use Rattle.scr.proofs.calls.start.Goals as goal
 
 pub returns : goal.returns

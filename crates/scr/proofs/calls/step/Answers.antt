@@ -1,5 +1,4 @@
 use Rattle.scr.proofs.Calling.{step-no-state, step-done}
-use borrow.Author.Rules.{rules}
 use Rattle.scr.proofs.calls.step.Goals as goal
 
 pub returns-then-index-s : goal.returns-then-index-s

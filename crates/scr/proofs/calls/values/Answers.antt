@@ -1,5 +1,4 @@
 use Rattle.scr.proofs.Calling.{count-room, kept-room, count-no-state, kept-no-state}
-use borrow.Author.Rules.{rules}
 use Rattle.scr.proofs.calls.values.Goals as goal
 
 pub returns-then-out-n : goal.returns-then-out-n

@@ -1,5 +1,4 @@
 use Rattle.scr.proofs.Opened.{reading-known, open-refused, open-cycle, open-set}
-use borrow.Author.Rules.{rules}
 use Rattle.scr.proofs.opening.open.Goals as goal
 
 pub reading-requires : goal.reading-requires

@@ -1,4 +1,3 @@
-use borrow.Author.Rules.{rules}
 use mathlib.Core.Path.{refl}
 use Rattle.scr.specs.Answers.{refusalSays}
 use Rattle.scr.proofs.refusals.cycle.Goals as goal

@@ -1,5 +1,4 @@
 use Rattle.scr.proofs.Deciding.{fault-gap, fault-overlap, fault-step}
-use borrow.Author.Rules.{rules}
 use Rattle.scr.proofs.refusals.fault.Goals as goal
 
 pub returns-in-Gap : goal.returns-in-Gap

@@ -1,4 +1,3 @@
-use borrow.Author.Rules.{rules}
 use Rattle.scr.proofs.Refusing.{says-1, says-2, says-3, says-4, says-5, says-6, says-7, says-8}
 use Rattle.scr.proofs.refusals.reading.Goals as goal
 

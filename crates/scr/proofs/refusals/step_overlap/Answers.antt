@@ -1,5 +1,4 @@
 use Rattle.scr.proofs.Refusing.{overlap-says}
-use borrow.Author.Rules.{rules}
 use Rattle.scr.proofs.refusals.step_overlap.Goals as goal
 
 pub returns : goal.returns

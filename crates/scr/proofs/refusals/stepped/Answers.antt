@@ -1,5 +1,4 @@
 use Rattle.scr.proofs.Refusing.{stepped-state, stepped-not, stepped-gap, stepped-overlap, stepped-step}
-use borrow.Author.Rules.{rules}
 use Rattle.scr.proofs.refusals.stepped.Goals as goal
 
 pub returns-in-State : goal.returns-in-State

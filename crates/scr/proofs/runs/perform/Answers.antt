@@ -1,5 +1,4 @@
 use Rattle.scr.proofs.Performing.{performed-last, performed-refused, performed-written}
-use borrow.Author.Rules.{rules}
 use Rattle.scr.proofs.runs.perform.Goals as goal
 
 pub returns-in-Last : goal.returns-in-Last

@@ -1,5 +1,4 @@
 use Rattle.scr.proofs.Performing.{many-answer, many-kept, short-answer, short-kept, state-answer, state-kept, run-answer, run-written}
-use borrow.Author.Rules.{rules}
 use Rattle.scr.proofs.runs.run.Goals as goal
 
 pub returns-then-events-gt-MAX_EVENTS : goal.returns-then-events-gt-MAX_EVENTS

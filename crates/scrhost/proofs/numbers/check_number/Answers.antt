@@ -1,5 +1,4 @@
 use Rattle.scrhost.proofs.Hosting.{check-passes, check-refuses}
-use borrow.Author.Rules.{rules}
 use Rattle.scrhost.proofs.numbers.check_number.Goals as goal
 
 pub returns-in-Pass : goal.returns-in-Pass

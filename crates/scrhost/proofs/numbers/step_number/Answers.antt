@@ -1,5 +1,4 @@
 use Rattle.scrhost.proofs.Hosting.{step-gives, step-refuses}
-use borrow.Author.Rules.{rules}
 use Rattle.scrhost.proofs.numbers.step_number.Goals as goal
 
 pub returns-in-State : goal.returns-in-State

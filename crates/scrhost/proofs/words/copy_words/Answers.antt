@@ -1,10 +1,7 @@
 use borrow.Author.Rules.{rules}
-use mathlib.Core.Path.{◌≡◌, refl}
-use mathlib.Core.List.{◌++◌}
-use Prim.Native.Nat.{◌≤◌, ◌-◌}
+use mathlib.Core.Path.{refl}
 use native.Mathlib.Nat.{sub-zero}
-use lib.ListN.{length, take, length-set}
-use Rattle.meaning.specs.Host.{wordsOfBytes}
+use lib.ListN.{length-set}
 use Rattle.scrhost.proofs.Copying.{copied, copied-all}
 use Rattle.scrhost.proofs.words.copy_words.Goals as goal
 

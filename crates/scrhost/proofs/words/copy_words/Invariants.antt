@@ -1,11 +1,8 @@
-use borrow.Author.Rules.{rules}
-use mathlib.Core.Path.{◌≡◌, refl}
+use mathlib.Core.Path.{◌≡◌}
 use mathlib.Core.List.{◌++◌}
 use Prim.Native.Nat.{◌≤◌, ◌-◌}
-use native.Mathlib.Nat.{sub-zero}
-use lib.ListN.{length, take, length-set}
+use lib.ListN.{length, take}
 use Rattle.meaning.specs.Host.{wordsOfBytes}
-use Rattle.scrhost.proofs.Copying.{copied, copied-all}
 use Rattle.scrhost.proofs.words.copy_words.Given as goal
 
 abbrev pub invariant-loop-i : goal.invariant-loop-i

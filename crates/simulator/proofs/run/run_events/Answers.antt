@@ -1,10 +1,7 @@
 use borrow.Author.Rules.{rules}
-use Rattle.simulator.specs.RunIndex.{runIndex}
-use lib.Seq.{sets}
-use lib.ListN.{length, drop, length-set}
-use Prim.Native.Nat.{◌≤◌, ◌-◌}
+use lib.ListN.{length-set}
 use Rattle.simulator.proofs.Running.{run-end-answer, run-end-trace, run-on-answer, run-on-trace, run-stop-answer, run-stop-trace}
-use mathlib.Core.Path.{◌≡◌, refl}
+use mathlib.Core.Path.{refl}
 use Rattle.simulator.proofs.run.run_events.Goals as goal
 
 pub loop-i-init : goal.loop-i-init

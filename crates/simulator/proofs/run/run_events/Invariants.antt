@@ -1,10 +1,8 @@
-use borrow.Author.Rules.{rules}
 use Rattle.simulator.specs.RunIndex.{runIndex}
 use lib.Seq.{sets}
-use lib.ListN.{length, drop, length-set}
-use Prim.Native.Nat.{◌≤◌, ◌-◌}
-use Rattle.simulator.proofs.Running.{run-end-answer, run-end-trace, run-on-answer, run-on-trace, run-stop-answer, run-stop-trace}
-use mathlib.Core.Path.{◌≡◌, refl}
+use lib.ListN.{length, drop}
+use Prim.Native.Nat.{◌≤◌}
+use mathlib.Core.Path.{◌≡◌}
 use Rattle.simulator.proofs.run.run_events.Given as goal
 
 abbrev pub invariant-loop-i : goal.invariant-loop-i
