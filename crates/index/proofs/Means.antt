@@ -6,7 +6,7 @@ use native.Mathlib.Omega.{arith}
 use native.Mathlib.Numerals.{sub-one}
 use borrow.Author.Tests.{ne_eqb, eq-eqb}
 use Rattle.word.specs.Fields as W
-use Rattle.meaning.specs.Answers.{if◌then◌else◌}
+use Rattle.meaning.specs.Answers.{if◌give◌else◌}
 use Rattle.meaning.specs.Searches.{product-below}
 use Rattle.meaning.specs.Syntax.{Variable, TableSet}
 use Rattle.meaning.specs.Lookup.{variableAt, Source, input, by-event, by-condition, count, sizeOf, source}
@@ -27,7 +27,7 @@ source-held {ws} (event-at i j rs n e) =
 source-held {ws} (condition-at i j rs t e) =
     rw (ne_eqb (suc i) 0 (λ q. (let z : ⊥ = omega arith in z)), sub-one (suc i), eq-eqb (W.sort (word ws i)) 3 t)
 
-held-radix : (s : Source) (n : ℕ) → (if isHeld s then (λ _. n) else (λ _. 1)) ≡ radixBy s n
+held-radix : (s : Source) (n : ℕ) → (if isHeld s give (λ _. n) else (λ _. 1)) ≡ radixBy s n
 unfolding isHeld radixBy
 held-radix input n = refl
 held-radix (by-event t) n = refl

@@ -1,7 +1,7 @@
 -- What a state holds of each variable, from words and places.
 use Rattle.std.specs.Prelude.{ℕ, ◌-◌, Bool, not, ◌||◌, List, eqb, get_or}
 use Rattle.word.specs.Fields as W
-use Rattle.meaning.specs.Answers.{if◌then◌else◌}
+use Rattle.meaning.specs.Answers.{if◌give◌else◌}
 use Rattle.meaning.specs.Searches.{product-below}
 use Rattle.meaning.specs.Reading.{word}
 use Rattle.index.specs.Places.{headOf}
@@ -16,7 +16,7 @@ module _ (ws ps : List ℕ) where
 
   -- how many values v adds to a state
   unfoldable pub radixAt : ℕ → ℕ
-  radixAt v = if heldAt v then (λ _. W.size (word ws (headOf ps v))) else (λ _. 1)
+  radixAt v = if heldAt v give (λ _. W.size (word ws (headOf ps v))) else (λ _. 1)
 
   -- what one more of v's value adds to the number of a state
   unfoldable pub weightAt : ℕ → ℕ

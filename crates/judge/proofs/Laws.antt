@@ -10,7 +10,7 @@ use lib.Dec.{eqb, leb}
 use borrow.Author.Tests.{ne_eqb, le-leb, lt-leb, not-true, not-false}
 use Rattle.word.specs.Fields as W
 use Rattle.word.specs.Limits as Max
-use Rattle.meaning.specs.Answers.{if◌then◌else◌}
+use Rattle.meaning.specs.Answers.{if◌give◌else◌}
 use Rattle.meaning.specs.Reading.{word, testBy, testOf}
 use Rattle.meaning.specs.Steps.{true-in, modeIs}
 use Rattle.theory.specs.Loops.{left}
@@ -181,7 +181,7 @@ module _ (ws : List ℕ) (f : ℕ → Judged) (x : ℕ) where
 
   rows-step : (l i p : ℕ) (g : Got) → leb (length ws) p ≡ false → rowsAt ws f x (suc l) i p g
       ≡ (if eqb (W.kind (word ws (f (suc p)).next)) 3
-      then (λ _. rowsAt ws f x l (suc i) (f (suc p)).next
+      give (λ _. rowsAt ws f x l (suc i) (f (suc p)).next
       (addRow g (modeIs (W.mode (word ws p)) x && (f (suc p)).value) i (W.value (word ws p))))
       else (λ _. addRow g (modeIs (W.mode (word ws p)) x && (f (suc p)).value) i (W.value (word ws p))))
   unfolding rowsAt
@@ -198,7 +198,7 @@ module _ (ws : List ℕ) (f : ℕ → Judged) (x : ℕ) where
     module _ (w : ℕ) (j : Judged) (r : Got) (q : Bool) (h : i < Max.max-rows) (hl : on < length ws)
         (ej : j ≡ f (on + 1)) (ew : w ≡ word ws on)
         (er : r ≡ addRow g (modeIs (W.mode w) x && j.value) i (W.value w)) (eq : q ≡ eqb (W.kind (word ws j.next)) 3) where
-      turn : (if q then (λ _. rowsAt ws f x (Max.max-rows - (i + 1)) (i + 1) j.next r) else (λ _. r)) ≡ all
+      turn : (if q give (λ _. rowsAt ws f x (Max.max-rows - (i + 1)) (i + 1) j.next r) else (λ _. r)) ≡ all
       turn =
           rw (eq, er, ew, ej, add-one on, add-one i)
           (sym (rows-step (Max.max-rows - suc i) i on g (lt-leb (length ws) on hl)) ∙ (rw (left Max.max-rows i h, add-one i) at inv))

@@ -9,7 +9,7 @@ use lib.ListN.{length, get_or, length-append}
 use lib.Dec.{eqb, leb, ltb}
 use Rattle.word.specs.Fields as W
 use Rattle.word.specs.Limits as Max
-use Rattle.meaning.specs.Answers.{Parse, fine, stop, ◌>>>◌, expect, if◌then◌else◌}
+use Rattle.meaning.specs.Answers.{Parse, fine, stop, ◌>>>◌, expect, if◌give◌else◌}
 use Rattle.meaning.specs.Searches.{mem, within, Hits, no-hit, one-hit, two-hits, andHere, hits}
 use Rattle.meaning.specs.Syntax.{Condition, constant, negation, Event, never, one-of, Variable, Row}
 use Rattle.meaning.specs.Reading.{Read, word, fits, testOk, testOf, conditionKinds, eventKinds, joined, changed, conditionBy, eventBy, rowOk, rowsBy, rowOf, wordAt, readCondition, readEvent, readRow, readRows}
@@ -91,13 +91,13 @@ condition-agrees vs b read judge agree w i = go (eqb (W.kind w) 4) (eqb (W.kind 
   where
     go : (x y z : Bool)
         → Agrees (true-in b)
-        (if x then (λ _. expect (testOk vs w) 3 i >>> λ _. fine (testOf w, suc i))
-        else λ _. if y then (λ _. fine (constant (eqb (W.truth w) 1), suc i))
-        else λ _. if z then (λ _. read (suc i) >>> λ r. fine (negation r.0, r.1))
+        (if x give (λ _. expect (testOk vs w) 3 i >>> λ _. fine (testOf w, suc i))
+        else λ _. if y give (λ _. fine (constant (eqb (W.truth w) 1), suc i))
+        else λ _. if z give (λ _. read (suc i) >>> λ r. fine (negation r.0, r.1))
         else λ _. (read (suc i) >>> λ r. read r.1 >>> λ q. fine (joined (eqb (W.kind w) 6) r.0 q.0, q.1)))
-        (if x then (λ _. record { value = true-in b (testOf w); next = suc i })
-        else λ _. if y then (λ _. record { value = eqb (W.truth w) 1; next = suc i })
-        else λ _. if z then (λ _. record { value = not (judge (suc i)).value; next = (judge (suc i)).next })
+        (if x give (λ _. record { value = true-in b (testOf w); next = suc i })
+        else λ _. if y give (λ _. record { value = eqb (W.truth w) 1; next = suc i })
+        else λ _. if z give (λ _. record { value = not (judge (suc i)).value; next = (judge (suc i)).next })
         else λ _. record {
           value = joinedBy (W.kind w) (judge (suc i)).value (judge (judge (suc i)).next).value;
           next = (judge (judge (suc i)).next).next;
@@ -120,7 +120,7 @@ agrees ws vs b (suc d) i =
     inside
     (λ (l : Bool) (m : Read Condition).
     Agrees (true-in b) m
-    (if l then (λ _. record { value = false; next = i }) else (λ _. judgeBy b (judgeAt ws b d) (word ws i) i)))
+    (if l give (λ _. record { value = false; next = i }) else (λ _. judgeBy b (judgeAt ws b d) (word ws i) i)))
     (λ l n k. tt)
     ws conditionKinds i refl (λ w. conditionBy vs (readCondition ws vs d) w i)
     (condition-agrees vs b (readCondition ws vs d) (judgeAt ws b d) (agrees ws vs b d) (word ws i) i)
@@ -151,13 +151,13 @@ event-agrees a b event judge agree condition before after agree-a agree-b w i = 
   where
     go : (x y : Bool)
         → Agrees (happens a b)
-        (if x then (λ _. expect (eqb (W.truth w) 0) 3 i >>> λ _. fine (never, suc i))
-        else λ _. if y then (λ _. event (suc i) >>> λ r. event r.1 >>> λ q. fine (one-of r.0 q.0, q.1))
+        (if x give (λ _. expect (eqb (W.truth w) 0) 3 i >>> λ _. fine (never, suc i))
+        else λ _. if y give (λ _. event (suc i) >>> λ r. event r.1 >>> λ q. fine (one-of r.0 q.0, q.1))
         else λ _. (expect (within 1 2 (W.sort w)) 3 i >>> λ _. condition (suc i) >>> λ r. condition r.1 >>> λ q.
         fine (changed (eqb (W.sort w) 1) r.0 q.0, q.1)))
-        (if x then (λ _. record { value = false; next = suc i })
+        (if x give (λ _. record { value = false; next = suc i })
         else λ _. if y
-        then (λ _. record {
+        give (λ _. record {
           value = (judge (suc i)).value || (judge (judge (suc i)).next).value;
           next = (judge (judge (suc i)).next).next;
         })
@@ -186,7 +186,7 @@ events-agree ws vs a b (suc d) i =
     (λ (l : Bool) (m : Read Event).
     Agrees (happens a b) m
     (if l
-    then (λ _. record { value = false; next = i })
+    give (λ _. record { value = false; next = i })
     else (λ _. judgeEventBy (judgeEventAt ws a b d) (changeAt ws a b d) (word ws i) i)))
     (λ l n k. tt)
     ws eventKinds i refl (λ w. eventBy (readEvent ws vs d) (readCondition ws vs d) w i)
@@ -257,8 +257,8 @@ module _ (ws : List ℕ) (vs : List Variable) {F : Type 0} (t : F → Bool) (for
   -- the rest, where row r is row i and g' are the rows that hold up to it
   rest-agrees : (i q : ℕ) (g g' : Got) (r : Row F) → g' ≡ addRow g (h r) i r.value
       → (b : Bool) (o : Read (List (Row F))) (got : Got) → RowsAgree h (suc i) g' o got
-      → RowsAgree h i g (if b then (λ _. o >>> λ s. fine (r ∷ s.0, s.1)) else (λ _. fine (r ∷ [], q)))
-      (if b then (λ _. got) else (λ _. g'))
+      → RowsAgree h i g (if b give (λ _. o >>> λ s. fine (r ∷ s.0, s.1)) else (λ _. fine (r ∷ [], q)))
+      (if b give (λ _. got) else (λ _. g'))
   unfolding foldRows
   rest-agrees i q g g' r e false o got a = e
   rest-agrees i q g g' r e true (stop n k) got a = tt
@@ -271,7 +271,7 @@ module _ (ws : List ℕ) (vs : List Variable) {F : Type 0} (t : F → Bool) (for
       → RowsAgree h i g
       ((o >>> λ r. fine (rowOf w r.0, r.1)) >>> λ r. rowsBy (W.kind (word ws r.1)) (readRows ws vs formula v m l) r)
       (if eqb (W.kind (word ws j.next)) 3
-      then (λ _. rowsAt ws f x l (suc i) j.next (addRow g (modeIs (W.mode w) x && j.value) i (W.value w)))
+      give (λ _. rowsAt ws f x l (suc i) j.next (addRow g (modeIs (W.mode w) x && j.value) i (W.value w)))
       else (λ _. addRow g (modeIs (W.mode w) x && j.value) i (W.value w)))
   unfolding rowOf rowsBy
   row-agrees l i w g ih (stop n k) j a = tt
@@ -291,11 +291,11 @@ module _ (ws : List ℕ) (vs : List Variable) {F : Type 0} (t : F → Bool) (for
       let w = word ws p in
       let j = f (suc p) in
       let g' = addRow g (modeIs (W.mode w) x && j.value) i (W.value w) in
-      let got = if eqb (W.kind (word ws j.next)) 3 then (λ _. rowsAt ws f x l (suc i) j.next g') else (λ _. g') in
+      let got = if eqb (W.kind (word ws j.next)) 3 give (λ _. rowsAt ws f x l (suc i) j.next g') else (λ _. g') in
       let rest : Row F × ℕ → Read (List (Row F)) = λ r. rowsBy (W.kind (word ws r.1)) (readRows ws vs formula v m l) r in
       let Q : Read (Row F) → Type 0 = λ o. RowsAgree h i g (o >>> rest) got in
       inside
-      (λ (b : Bool) (o : Read (Row F)). RowsAgree h i g (o >>> rest) (if b then (λ _. g) else (λ _. got)))
+      (λ (b : Bool) (o : Read (Row F)). RowsAgree h i g (o >>> rest) (if b give (λ _. g) else (λ _. got)))
       (λ b n k. tt)
       ws (3 ∷ []) p refl
       (λ u. expect (ltb 0 (suc l)) 4 p >>> λ _. expect (rowOk vs v m u) 3 p >>> λ _.

@@ -2,7 +2,7 @@
 use Rattle.std.specs.Prelude.{ℕ, zero, suc, Bool, true, false, not, ◌&&◌, ◌||◌, cond, List, length, leb, eqb}
 use Rattle.word.specs.Fields as W
 use Rattle.word.specs.Limits as Max
-use Rattle.meaning.specs.Answers.{if◌then◌else◌}
+use Rattle.meaning.specs.Answers.{if◌give◌else◌}
 use Rattle.meaning.specs.Searches.{Hits, no-hit, one-hit, two-hits}
 use Rattle.meaning.specs.Syntax.{Row}
 use Rattle.meaning.specs.Reading.{word, testOf}
@@ -19,9 +19,9 @@ joinedBy k x y = cond (eqb k 6) (x && y) (x || y)
 -- the condition whose first word w stands at i; `rec` judges an operand
 unfoldable pub judgeBy : List ℕ → (ℕ → Judged) → ℕ → ℕ → Judged
 judgeBy b rec w i =
-    if eqb (W.kind w) 4 then (λ _. record { value = true-in b (testOf w); next = suc i })
-    else λ _. if eqb (W.kind w) 9 then (λ _. record { value = eqb (W.truth w) 1; next = suc i })
-    else λ _. if eqb (W.kind w) 5 then (λ _. record { value = not (rec (suc i)).value; next = (rec (suc i)).next })
+    if eqb (W.kind w) 4 give (λ _. record { value = true-in b (testOf w); next = suc i })
+    else λ _. if eqb (W.kind w) 9 give (λ _. record { value = eqb (W.truth w) 1; next = suc i })
+    else λ _. if eqb (W.kind w) 5 give (λ _. record { value = not (rec (suc i)).value; next = (rec (suc i)).next })
     else λ _. record {
       value = joinedBy (W.kind w) (rec (suc i)).value (rec (rec (suc i)).next).value;
       next = (rec (rec (suc i)).next).next;
@@ -32,7 +32,7 @@ unfoldable pub judgeAt : List ℕ → List ℕ → ℕ → ℕ → Judged
 judgeAt ws b zero i = record { value = false; next = i }
 judgeAt ws b (suc d) i =
     if leb (length ws) i
-    then (λ _. record { value = false; next = i })
+    give (λ _. record { value = false; next = i })
     else (λ _. judgeBy b (judgeAt ws b d) (word ws i) i)
 
 -- ---- events
@@ -53,9 +53,9 @@ changeAt ws a b d w i = changeBy (judgeAt ws a d) (judgeAt ws b d) w i
 -- the event whose first word w stands at i; `change` judges a change word before a place
 unfoldable pub judgeEventBy : (ℕ → Judged) → (ℕ → ℕ → Judged) → ℕ → ℕ → Judged
 judgeEventBy rec change w i =
-    if eqb (W.kind w) 9 then (λ _. record { value = false; next = suc i })
+    if eqb (W.kind w) 9 give (λ _. record { value = false; next = suc i })
     else λ _. if eqb (W.kind w) 7
-    then (λ _. record { value = (rec (suc i)).value || (rec (rec (suc i)).next).value; next = (rec (rec (suc i)).next).next })
+    give (λ _. record { value = (rec (suc i)).value || (rec (rec (suc i)).next).value; next = (rec (rec (suc i)).next).next })
     else λ _. change w (suc i)
 
 -- the event at i in the step from the values a to the values b
@@ -63,7 +63,7 @@ unfoldable pub judgeEventAt : List ℕ → List ℕ → List ℕ → ℕ → ℕ
 judgeEventAt ws a b zero i = record { value = false; next = i }
 judgeEventAt ws a b (suc d) i =
     if leb (length ws) i
-    then (λ _. record { value = false; next = i })
+    give (λ _. record { value = false; next = i })
     else (λ _. judgeEventBy (judgeEventAt ws a b d) (changeAt ws a b d) (word ws i) i)
 
 -- ---- rows
@@ -80,11 +80,11 @@ unfoldable pub rowsAt : List ℕ → (ℕ → Judged) → ℕ → ℕ → ℕ �
 rowsAt ws f x zero i p g = g
 rowsAt ws f x (suc l) i p g =
     if leb (length ws) p
-    then (λ _. g)
+    give (λ _. g)
     else λ _.
     let j = f (suc p) in
     let h = addRow g (modeIs (W.mode (word ws p)) x && j.value) i (W.value (word ws p)) in
-    if eqb (W.kind (word ws j.next)) 3 then (λ _. rowsAt ws f x l (suc i) j.next h) else (λ _. h)
+    if eqb (W.kind (word ws j.next)) 3 give (λ _. rowsAt ws f x l (suc i) j.next h) else (λ _. h)
 
 unfoldable pub conditionRowsAt : List ℕ → List ℕ → ℕ → ℕ → ℕ → ℕ → Got → Got
 conditionRowsAt ws b x l i p g = rowsAt ws (judgeAt ws b Max.max-depth) x l i p g

@@ -11,7 +11,7 @@ use lib.ListN.{length, get_or}
 use borrow.Author.Tests.{ne_eqb}
 use Rattle.word.specs.Fields as W
 use Rattle.word.specs.Limits as Max
-use Rattle.meaning.specs.Answers.{fine, stop, ◌>>>◌, expect, if◌then◌else◌}
+use Rattle.meaning.specs.Answers.{fine, stop, ◌>>>◌, expect, if◌give◌else◌}
 use Rattle.meaning.specs.Searches.{mem, within}
 use Rattle.meaning.specs.Syntax.{Condition, constant, negation, Event, never, one-of, Variable, Row, TableSet}
 use Rattle.meaning.specs.Lookup.{Source}
@@ -80,13 +80,13 @@ module _ (vs : List Variable) (rp : ℕ → Read Condition) (rj : ℕ → Masked
 
       go : (x y z : Bool)
           → Agrees tests
-          (if x then (λ _. expect (testOk vs w) 3 i >>> λ _. fine (testOf w, suc i))
-          else λ _. if y then (λ _. fine (constant (eqb (W.truth w) 1), suc i))
-          else λ _. if z then (λ _. rp (suc i) >>> λ r. fine (negation r.0, r.1))
+          (if x give (λ _. expect (testOk vs w) 3 i >>> λ _. fine (testOf w, suc i))
+          else λ _. if y give (λ _. fine (constant (eqb (W.truth w) 1), suc i))
+          else λ _. if z give (λ _. rp (suc i) >>> λ r. fine (negation r.0, r.1))
           else λ _. (rp (suc i) >>> λ r. rp r.1 >>> λ q. fine (joined (eqb (W.kind w) 6) r.0 q.0, q.1)))
-          (if x then (λ _. record { mask = oneBit (W.variable w); next = suc i })
-          else λ _. if y then (λ _. nothingAt (suc i))
-          else λ _. if z then (λ _. rj (suc i))
+          (if x give (λ _. record { mask = oneBit (W.variable w); next = suc i })
+          else λ _. if y give (λ _. nothingAt (suc i))
+          else λ _. if z give (λ _. rj (suc i))
           else λ _. bothFrom rj (suc i))
       go true y z = test (testOk vs w)
       go false true z = (refl, λ b l. sym (zero-at b))
@@ -122,12 +122,12 @@ module _ (rp : ℕ → Read Event) (rj : ℕ → Masked) (ih : (i : ℕ) → Agr
 
       go : (x y : Bool)
           → Agrees changes
-          (if x then (λ _. expect (eqb (W.truth w) 0) 3 i >>> λ _. fine (never, suc i))
-          else λ _. if y then (λ _. rp (suc i) >>> λ r. rp r.1 >>> λ q. fine (one-of r.0 q.0, q.1))
+          (if x give (λ _. expect (eqb (W.truth w) 0) 3 i >>> λ _. fine (never, suc i))
+          else λ _. if y give (λ _. rp (suc i) >>> λ r. rp r.1 >>> λ q. fine (one-of r.0 q.0, q.1))
           else λ _. (expect (within 1 2 (W.sort w)) 3 i >>> λ _. cp (suc i) >>> λ r. cp r.1 >>> λ q.
           fine (changed (eqb (W.sort w) 1) r.0 q.0, q.1)))
-          (if x then (λ _. nothingAt (suc i))
-          else λ _. if y then (λ _. bothFrom rj (suc i))
+          (if x give (λ _. nothingAt (suc i))
+          else λ _. if y give (λ _. bothFrom rj (suc i))
           else λ _. firstFrom cj (suc i))
       go true y = none (eqb (W.truth w) 0)
       go false true =
@@ -137,12 +137,12 @@ module _ (rp : ℕ → Read Event) (rj : ℕ → Masked) (ih : (i : ℕ) → Agr
 
 -- ---- levels: a word that fits is there
 level : {A : Type 0} (sees : ℕ → A → Bool) (ws kinds : List ℕ) (i : ℕ) → mem 0 kinds ≡ false → (f : ℕ → Read A) (j : Masked)
-    → Agrees sees (f (word ws i)) j → Agrees sees (wordAt ws kinds i >>> f) (if leb (length ws) i then (λ _. nothingAt i) else (λ _. j))
+    → Agrees sees (f (word ws i)) j → Agrees sees (wordAt ws kinds i >>> f) (if leb (length ws) i give (λ _. nothingAt i) else (λ _. j))
 unfolding wordAt
 level sees ws kinds i k f j a = go (leb (length ws) i) refl (fits kinds (word ws i)) refl
   where
     go : (l : Bool) → leb (length ws) i ≡ l → (t : Bool) → fits kinds (word ws i) ≡ t
-        → Agrees sees ((expect t 2 i >>> λ _. fine (word ws i)) >>> f) (if l then (λ _. nothingAt i) else (λ _. j))
+        → Agrees sees ((expect t 2 i >>> λ _. fine (word ws i)) >>> f) (if l give (λ _. nothingAt i) else (λ _. j))
     go l el false et = tt
     go true el true et = absurd (true-not-false et (past-unfit ws kinds i k el))
     go false el true et = a
@@ -224,8 +224,8 @@ module _ {F : Type 0} (sees : ℕ → F → Bool) (ws : List ℕ) (vs : List Var
       more : (k : Bool) (r : Row F × ℕ) (n : ℕ) → ((b : ℕ) → b < Max.max-variables → seesRow b r.0 ≡ bitIn n b) → (o : Read (List (Row F)))
           → RowsAgree sees (bit_or first n) o (rowsMask ws t left r.1 (bit_or first n))
           → RowsAgree sees first
-          (if k then (λ _. o >>> λ q. fine (r.0 ∷ q.0, q.1)) else (λ _. fine (r.0 ∷ [], r.1)))
-          (if k then (λ _. rowsMask ws t left r.1 (bit_or first n)) else (λ _. bit_or first n))
+          (if k give (λ _. o >>> λ q. fine (r.0 ∷ q.0, q.1)) else (λ _. fine (r.0 ∷ [], r.1)))
+          (if k give (λ _. rowsMask ws t left r.1 (bit_or first n)) else (λ _. bit_or first n))
       more false r n h o a = λ b l. rw (or-false (seesRow b r.0), h b l) (sym (or-at first n b))
       more true r n h (stop k x) a = tt
       more true r n h (fine s) a = λ b l.

@@ -12,7 +12,7 @@ use lib.Seq.{take_all, take-suc-set}
 use borrow.Author.Tests.{ne_eqb, eq-eqb, le-leb, lt-leb}
 use Rattle.word.specs.Fields as W
 use Rattle.word.specs.Limits as Max
-use Rattle.meaning.specs.Answers.{if◌then◌else◌}
+use Rattle.meaning.specs.Answers.{if◌give◌else◌}
 use Rattle.meaning.specs.Searches.{listOf}
 use Rattle.meaning.specs.Reading.{word}
 use Rattle.theory.specs.Loops.{left}
@@ -126,7 +126,7 @@ rows-end ws t (suc l) p m e = rw e
 abbrev pub rowsAfter : List ℕ → ℕ → ℕ → ℕ → Masked → ℕ
 rowsAfter ws t l m j =
     if eqb (W.kind (word ws j.next)) 3
-    then (λ _. rowsMask ws t l j.next (bit_or m j.mask))
+    give (λ _. rowsMask ws t l j.next (bit_or m j.mask))
     else (λ _. bit_or m j.mask)
 
 pub rows-here : (ws : List ℕ) (t l p m : ℕ) → leb (length ws) p ≡ false
@@ -142,7 +142,7 @@ module _ (ws : List ℕ) (t i on m at first : ℕ) (inv : rowsMask ws t (Max.max
   rows-all h = let z : Max.max-rows - i ≡ 0 = omega arith in sym (rows-zero ws t on m) ∙ (rw z at inv)
 
   module _ (w k : ℕ) (j : Masked) (h : i < Max.max-rows) (hl : on < length ws) (ej : j ≡ formulaMask ws t (on + 1)) (ew : w ≡ word ws j.next) (ek : k ≡ W.kind w) where
-    turn : (if eqb k 3 then (λ _. rowsMask ws t (Max.max-rows - (i + 1)) j.next (bit_or m j.mask)) else (λ _. bit_or m j.mask))
+    turn : (if eqb k 3 give (λ _. rowsMask ws t (Max.max-rows - (i + 1)) j.next (bit_or m j.mask)) else (λ _. bit_or m j.mask))
         ≡ rowsMask ws t Max.max-rows at first
     turn =
         rw (ek, ew, ej, add-one on)
@@ -161,7 +161,7 @@ table-none ws ps v p ep e = rw (← ep, e)
 
 table-by : (ws : List ℕ) (p : ℕ) → (p ≡ 0 → ⊥)
     → rowsMask ws (W.sort (word ws (p - 1))) Max.max-rows p
-    (if eqb (W.sort (word ws (p - 1))) 3 then (λ _. oneBit (W.class-read (word ws (p - 1)))) else (λ _. 0)) ≡ tableMask ws p
+    (if eqb (W.sort (word ws (p - 1))) 3 give (λ _. oneBit (W.class-read (word ws (p - 1)))) else (λ _. 0)) ≡ tableMask ws p
 unfolding tableMask
 table-by ws zero n = absurd (n refl)
 table-by ws (suc i) n = rw (sub-one (suc i))

@@ -12,7 +12,7 @@ use lib.Seq.{get_or-set_same, get_or-set_other}
 use borrow.Author.Tests.{ne_eqb, eq-eqb, not-true}
 use Rattle.word.specs.Fields as W
 use Rattle.word.specs.Limits as Max
-use Rattle.meaning.specs.Answers.{fine, stop, ◌>>>◌, expect, if◌then◌else◌}
+use Rattle.meaning.specs.Answers.{fine, stop, ◌>>>◌, expect, if◌give◌else◌}
 use Rattle.meaning.specs.Syntax.{Event, Variable, Table, Body}
 use Rattle.meaning.specs.Lookup.{definedBy, tableOf, isSome, hasTable}
 use Rattle.meaning.specs.Reading.{Read, word, fits, tableOk, tableFits, bodyOf, eventTableBy, wordAt, readBody, readTable, readTables}
@@ -62,7 +62,7 @@ module _ (t : Table) (u : ℕ) where
   other-table (x ∷ ts) e = go (eqb (definedBy x) u) (other-table ts e)
     where
       go : (b : Bool) → tableOf (ts ++ (t ∷ [])) u ≡ tableOf ts u
-          → (if b then (λ _. some x) else (λ _. tableOf (ts ++ (t ∷ [])) u)) ≡ (if b then (λ _. some x) else (λ _. tableOf ts u))
+          → (if b give (λ _. some x) else (λ _. tableOf (ts ++ (t ∷ [])) u)) ≡ (if b give (λ _. some x) else (λ _. tableOf ts u))
       go true h = refl
       go false h = h
 
@@ -72,8 +72,8 @@ module _ (t : Table) (u : ℕ) where
   new-table (x ∷ ts) e h = go (eqb (definedBy x) u) (new-table ts e) h
     where
       go : (b : Bool) → (tableOf ts u ≡ none → tableOf (ts ++ (t ∷ [])) u ≡ some t)
-          → (if b then (λ _. some x) else (λ _. tableOf ts u)) ≡ none
-          → (if b then (λ _. some x) else (λ _. tableOf (ts ++ (t ∷ [])) u)) ≡ some t
+          → (if b give (λ _. some x) else (λ _. tableOf ts u)) ≡ none
+          → (if b give (λ _. some x) else (λ _. tableOf (ts ++ (t ∷ [])) u)) ≡ some t
       go true ih h = absurd (none-not-some h)
       go false ih h = ih h
 
@@ -88,7 +88,7 @@ module _ (ws : List ℕ) (vs : List Variable) where
   unfolding readBody definedBy bodyOf
   body-defines w i j t = go (eqb (W.sort w) 3)
     where
-      go : (b : Bool) → (if b then (λ _. conditionTable ws vs w i) else (λ _. eventTable ws vs w i)) ≡ fine (t, j)
+      go : (b : Bool) → (if b give (λ _. conditionTable ws vs w i) else (λ _. eventTable ws vs w i)) ≡ fine (t, j)
           → definedBy t ≡ W.defined w
       go true e =
           let d = then-fine (conditionRows ws vs w i) _ (t, j) e in
@@ -170,7 +170,7 @@ module _ (ws : List ℕ) (vs : List Variable) (few : length vs ≤ Max.max-varia
       (go (eqb (W.kind (word ws i)) 2) (readTable ws vs i (isPlaced ps (W.defined (word ws i)))))
     where
       go : (b : Bool) (m : Read Table)
-          → Agree ws vs (if b then (λ _. m >>> λ _. stop 5 i) else (λ _. fine (ts, i))) (if b then (λ _. m >>> λ _. stop 5 i) else (λ _. fine (ps, i)))
+          → Agree ws vs (if b give (λ _. m >>> λ _. stop 5 i) else (λ _. fine (ts, i))) (if b give (λ _. m >>> λ _. stop 5 i) else (λ _. fine (ps, i)))
       go true (fine r) = (refl, refl)
       go true (stop k x) = (refl, refl)
       go false m = (refl, ix)
@@ -184,8 +184,8 @@ module _ (ws : List ℕ) (vs : List Variable) (few : length vs ≤ Max.max-varia
       go : (b : Bool) (m : Read Table) → readTable ws vs i (isPlaced ps (W.defined (word ws i))) ≡ m
           → ((t : Table) (j : ℕ) → readTable ws vs i (isPlaced ps (W.defined (word ws i))) ≡ fine (t, j)
           → Agree ws vs (readTables ws vs l j (ts ++ (t ∷ []))) (readPlaces ws vs l j (set ps (W.defined (word ws i)) (suc i))))
-          → Agree ws vs (if b then (λ _. m >>> λ r. readTables ws vs l r.1 (ts ++ (r.0 ∷ []))) else (λ _. fine (ts, i)))
-          (if b then (λ _. m >>> λ r. readPlaces ws vs l r.1 (set ps (W.defined (word ws i)) (suc i))) else (λ _. fine (ps, i)))
+          → Agree ws vs (if b give (λ _. m >>> λ r. readTables ws vs l r.1 (ts ++ (r.0 ∷ []))) else (λ _. fine (ts, i)))
+          (if b give (λ _. m >>> λ r. readPlaces ws vs l r.1 (set ps (W.defined (word ws i)) (suc i))) else (λ _. fine (ps, i)))
       go true (fine r) e ih = ih r.0 r.1 e
       go true (stop k x) e ih = (refl, refl)
       go false m e ih = (refl, ix)

@@ -10,7 +10,7 @@ use lib.ListN.{length}
 use borrow.Author.Tests.{ne_eqb}
 use Rattle.word.specs.Fields as W
 use Rattle.word.specs.Limits as Max
-use Rattle.meaning.specs.Answers.{fine, ◌>>>◌, if◌then◌else◌}
+use Rattle.meaning.specs.Answers.{fine, ◌>>>◌, if◌give◌else◌}
 use Rattle.meaning.specs.Searches.{mem}
 use Rattle.meaning.specs.Syntax.{Condition, Event, Variable, Row}
 use Rattle.meaning.specs.Reading.{Read, word, fits, rowOk, rowOf, rowsBy, readCondition, readEvent, readRow, readRows}
@@ -51,7 +51,7 @@ module _ (ws : List ℕ) (vs : List Variable) {F : Type 0} (formula : ℕ → Re
   rows-by rec k p = go (eqb k 3)
     where
       go : (b : Bool)
-          → reach (if b then (λ _. rec p.1 >>> λ q. fine (p.0 ∷ q.0, q.1)) else (λ _. fine (p.0 ∷ [], p.1)))
+          → reach (if b give (λ _. rec p.1 >>> λ q. fine (p.0 ∷ q.0, q.1)) else (λ _. fine (p.0 ∷ [], p.1)))
           ≡ rowThen b (reach (rec p.1)) p.1
       go true = made-reach (rec p.1) _
       go false = refl
@@ -75,8 +75,8 @@ module _ (ws : List ℕ) (vs : List Variable) (t : ℕ) where
   by-type f g same = go (eqb t 3)
     where
       go : (b : Bool)
-          → (if b then (λ _. f Condition (readCondition ws vs Max.max-depth)) else (λ _. f Event (readEvent ws vs Max.max-depth)))
-          ≡ (if b then (λ _. g Condition (readCondition ws vs Max.max-depth)) else (λ _. g Event (readEvent ws vs Max.max-depth)))
+          → (if b give (λ _. f Condition (readCondition ws vs Max.max-depth)) else (λ _. f Event (readEvent ws vs Max.max-depth)))
+          ≡ (if b give (λ _. g Condition (readCondition ws vs Max.max-depth)) else (λ _. g Event (readEvent ws vs Max.max-depth)))
       go true = same Condition (readCondition ws vs Max.max-depth)
       go false = same Event (readEvent ws vs Max.max-depth)
 
@@ -89,7 +89,7 @@ module _ (ws : List ℕ) (vs : List Variable) (t v m l at : ℕ) where
         always (eqb t 3) ∙ by-type ws vs t (λ F formula. Refused k at) (λ F formula. reach (readRow ws vs formula v m l at))
         (λ F formula. tested-refused _ _ _ _ k at _ ek nz ∙ sym (row-tested ws vs formula v m l at))
       where
-        always : (b : Bool) → Refused k at ≡ (if b then (λ _. Refused k at) else (λ _. Refused k at))
+        always : (b : Bool) → Refused k at ≡ (if b give (λ _. Refused k at) else (λ _. Refused k at))
         always true = refl
         always false = refl
 
@@ -122,13 +122,13 @@ module _ (ws : List ℕ) (vs : List Variable) (t v m : ℕ) where
     where
       go : (b : Bool)
           → (if b
-          then (λ _. reach (readRows ws vs (readCondition ws vs Max.max-depth) v m (suc l) on))
+          give (λ _. reach (readRows ws vs (readCondition ws vs Max.max-depth) v m (suc l) on))
           else (λ _. reach (readRows ws vs (readEvent ws vs Max.max-depth) v m (suc l) on)))
           ≡ thenAt (if b
-          then (λ _. reach (readRow ws vs (readCondition ws vs Max.max-depth) v m (suc l) on))
+          give (λ _. reach (readRow ws vs (readCondition ws vs Max.max-depth) v m (suc l) on))
           else (λ _. reach (readRow ws vs (readEvent ws vs Max.max-depth) v m (suc l) on)))
           (λ j. rowThen (eqb (W.kind (word ws j)) 3) (if b
-          then (λ _. reach (readRows ws vs (readCondition ws vs Max.max-depth) v m l j))
+          give (λ _. reach (readRows ws vs (readCondition ws vs Max.max-depth) v m l j))
           else (λ _. reach (readRows ws vs (readEvent ws vs Max.max-depth) v m l j))) j)
       go true = rows-unrolled ws vs (readCondition ws vs Max.max-depth) v m l on
       go false = rows-unrolled ws vs (readEvent ws vs Max.max-depth) v m l on

@@ -10,7 +10,7 @@ use lib.ListN.{length, get_or, set}
 use borrow.Author.Tests.{ne_eqb, eq-eqb}
 use Rattle.word.specs.Fields as W
 use Rattle.word.specs.Limits as Max
-use Rattle.meaning.specs.Answers.{Parse, fine, stop, ◌>>>◌, if◌then◌else◌}
+use Rattle.meaning.specs.Answers.{Parse, fine, stop, ◌>>>◌, if◌give◌else◌}
 use Rattle.meaning.specs.Searches.{mem, within}
 use Rattle.meaning.specs.Syntax.{Condition, Event, Variable, Row, Table, condition-table}
 use Rattle.meaning.specs.Reading.{Read, word, fits, tableOk, tableFits, bodyOf, eventTableBy, wordAt, readCondition, readEvent, readRows, readBody, readTable}
@@ -45,8 +45,8 @@ module _ (ws : List ℕ) (vs : List Variable) (w i : ℕ) where
   body-reach = go (eqb (W.sort w) 3)
     where
       go : (b : Bool)
-          → (if b then (λ _. reach conditionRows) else (λ _. reach eventRows))
-          ≡ reach (if b then (λ _. conditionTable) else (λ _. eventTable))
+          → (if b give (λ _. reach conditionRows) else (λ _. reach eventRows))
+          ≡ reach (if b give (λ _. conditionTable) else (λ _. eventTable))
       go true = sym (made-reach conditionRows _)
       go false = sym (made-reach eventRows _)
 

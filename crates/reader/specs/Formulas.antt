@@ -2,7 +2,7 @@
 -- readings for a table of type t, which is 3 for a condition table.
 use Rattle.std.specs.Prelude.{ℕ, Bool, true, false, List, eqb}
 use Rattle.word.specs.Limits as Max
-use Rattle.meaning.specs.Answers.{if◌then◌else◌}
+use Rattle.meaning.specs.Answers.{if◌give◌else◌}
 use Rattle.meaning.specs.Syntax.{Condition, Event, Variable}
 use Rattle.meaning.specs.Reading.{Read, readCondition, readEvent, readRow, readRows}
 use Rattle.index.specs.declared.Reached.{Reached}
@@ -25,7 +25,7 @@ module _ (ws : List ℕ) (vs : List Variable) where
   abbrev pub byType : ℕ → ((F : Type 0) → (ℕ → Read F) → Reached) → Reached
   byType t reading =
       if eqb t 3
-      then (λ _. reading Condition (readCondition ws vs Max.max-depth))
+      give (λ _. reading Condition (readCondition ws vs Max.max-depth))
       else (λ _. reading Event (readEvent ws vs Max.max-depth))
 
   -- the formula of a row

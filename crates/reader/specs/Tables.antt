@@ -1,7 +1,7 @@
 -- What code that keeps places alone says of tables.
 use Rattle.std.specs.Prelude.{ℕ, zero, suc, Bool, not, List, eqb, get_or, set}
 use Rattle.word.specs.Fields as W
-use Rattle.meaning.specs.Answers.{fine, stop, ◌>>>◌, if◌then◌else◌}
+use Rattle.meaning.specs.Answers.{fine, stop, ◌>>>◌, if◌give◌else◌}
 use Rattle.meaning.specs.Syntax.{Variable}
 use Rattle.meaning.specs.Reading.{Read, word, readTable}
 
@@ -14,10 +14,10 @@ module _ (ws : List ℕ) (vs : List Variable) where
   unfoldable pub readPlaces : ℕ → ℕ → List ℕ → Read (List ℕ)
   readPlaces zero i ps =
       if eqb (W.kind (word ws i)) 2
-      then (λ _. readTable ws vs i (isPlaced ps (W.defined (word ws i))) >>> λ _. stop 5 i)
+      give (λ _. readTable ws vs i (isPlaced ps (W.defined (word ws i))) >>> λ _. stop 5 i)
       else (λ _. fine (ps, i))
   readPlaces (suc left) i ps =
       if eqb (W.kind (word ws i)) 2
-      then (λ _. readTable ws vs i (isPlaced ps (W.defined (word ws i))) >>> λ r.
+      give (λ _. readTable ws vs i (isPlaced ps (W.defined (word ws i))) >>> λ r.
       readPlaces left r.1 (set ps (W.defined (word ws i)) (suc i)))
       else (λ _. fine (ps, i))

@@ -1,6 +1,6 @@
 -- The lines of a run, from what the entry gives and leaves in the lent list.
 use Rattle.std.specs.Prelude.{ℕ, List, ◌++◌, eqb, length, get_or, take}
-use Rattle.meaning.specs.Answers.{Outcome, ok, refuse, if◌then◌else◌}
+use Rattle.meaning.specs.Answers.{Outcome, ok, refuse, if◌give◌else◌}
 use Rattle.meaning.specs.Syntax.{TableSet}
 use Rattle.meaning.specs.Passes.{Passes}
 use Rattle.meaning.specs.Program.{eventLines, refuseLine}
@@ -11,7 +11,7 @@ Passed ws = (z : TableSet) × Passes ws z
 
 -- how many events were done before this refusal
 unfoldable pub doneBefore : ℕ → List ℕ → ℕ
-doneBefore n xs = if eqb n 16 then (λ _. get_or xs 0 0) else (λ _. 0)
+doneBefore n xs = if eqb n 16 give (λ _. get_or xs 0 0) else (λ _. 0)
 
 unfoldable pub ranLines : List ℕ → List ℕ → Outcome ℕ → List ℕ
 ranLines events states (ok s) = eventLines 0 events (take (length events) states)

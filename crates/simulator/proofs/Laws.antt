@@ -11,7 +11,7 @@ use lib.Dec.{eqb}
 use borrow.Author.Tests.{ne_eqb, not-true, not-false}
 use Rattle.word.specs.Fields as W
 use Rattle.word.specs.Limits as Max
-use Rattle.meaning.specs.Answers.{ok, ◌>>=◌, if◌then◌else◌}
+use Rattle.meaning.specs.Answers.{ok, ◌>>=◌, if◌give◌else◌}
 use Rattle.meaning.specs.Searches.{listOf}
 use Rattle.theory.specs.Numbers.{length-listOf}
 use Rattle.meaning.specs.Steps.{Input, inputOf}
@@ -70,14 +70,14 @@ module _ (ws a b : List ℕ) (w p v m y mode old : ℕ) (got : Got) (em : m ≡ 
 
 -- ---- by the place of the first row
 in-place : (ws b : List ℕ) (x p : ℕ) → (p ≡ 0 → ⊥)
-    → (if eqb (W.sort (word ws (p - 1))) 3 then (λ _. conditionGiven ws b (word ws (p - 1)) p) else (λ _. G.Is x)) ≡ givenInBy ws b x p
+    → (if eqb (W.sort (word ws (p - 1))) 3 give (λ _. conditionGiven ws b (word ws (p - 1)) p) else (λ _. G.Is x)) ≡ givenInBy ws b x p
 unfolding givenInBy
 in-place ws b x zero n = absurd (n refl)
 in-place ws b x (suc i) n = let e : suc i - 1 ≡ i = omega arith in rw e
 
 after-place : (ws a b : List ℕ) (x v p : ℕ) → (p ≡ 0 → ⊥)
     → (if eqb (W.sort (word ws (p - 1))) 3
-    then (λ _. conditionGiven ws b (word ws (p - 1)) p)
+    give (λ _. conditionGiven ws b (word ws (p - 1)) p)
     else (λ _. eventGiven ws a b (word ws (p - 1)) p v)) ≡ givenAfterBy ws a b x v p
 unfolding givenAfterBy
 after-place ws a b x v zero n = absurd (n refl)

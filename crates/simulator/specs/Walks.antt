@@ -2,7 +2,7 @@
 use Rattle.std.specs.Prelude.{ℕ, zero, suc, List, [], ◌∷◌, eqb, get_or, set as put}
 use Rattle.word.specs.Fields as W
 use Rattle.word.specs.Limits as Max
-use Rattle.meaning.specs.Answers.{Outcome, ok, refuse, if◌then◌else◌}
+use Rattle.meaning.specs.Answers.{Outcome, ok, refuse, if◌give◌else◌}
 use Rattle.meaning.specs.Reading.{word}
 use Rattle.meaning.specs.States.{Values}
 use Rattle.meaning.specs.Steps.{Input}
@@ -37,7 +37,7 @@ eventGiven ws a b w p v = eventOf (get_or a v 0) (eventRowsAt ws a b (get_or a (
 unfoldable pub givenInBy : List ℕ → Values → ℕ → ℕ → Given
 givenInBy ws b x zero = G.Is x
 givenInBy ws b x (suc i) =
-    if eqb (W.sort (word ws i)) 3 then (λ _. conditionGiven ws b (word ws i) (suc i)) else (λ _. G.Is x)
+    if eqb (W.sort (word ws i)) 3 give (λ _. conditionGiven ws b (word ws i) (suc i)) else (λ _. G.Is x)
 
 unfoldable pub givenIn : List ℕ → List ℕ → Values → ℕ → ℕ → Given
 givenIn ws ps b x v = givenInBy ws b x (get_or ps v 0)
@@ -46,7 +46,7 @@ unfoldable pub givenAfterBy : List ℕ → Values → Values → ℕ → ℕ →
 givenAfterBy ws a b x v zero = G.Is x
 givenAfterBy ws a b x v (suc i) =
     if eqb (W.sort (word ws i)) 3
-    then (λ _. conditionGiven ws b (word ws i) (suc i))
+    give (λ _. conditionGiven ws b (word ws i) (suc i))
     else (λ _. eventGiven ws a b (word ws i) (suc i) v)
 
 unfoldable pub givenAfter : List ℕ → List ℕ → Values → Values → ℕ → ℕ → Given

@@ -1,7 +1,7 @@
 -- What a reader gives: one law for each way in which a reader is put together.
 use Rattle.std.specs.Prelude.{ℕ, ◌≡◌, refl, Bool, true, false}
 use Rattle.std.proofs.Common.{sym, subst}
-use Rattle.meaning.specs.Answers.{Parse, fine, stop, ◌>>>◌, expect, if◌then◌else◌}
+use Rattle.meaning.specs.Answers.{Parse, fine, stop, ◌>>>◌, expect, if◌give◌else◌}
 use Rattle.theory.specs.Found.{fine-same, fine-not-stop}
 
 -- where m does not stop, P holds of what it gives
@@ -33,13 +33,13 @@ so (gives a q) h = gives a (h a q)
 so (stops n i) h = stops n i
 
 pub branches : {A : Type 0} {P : A → Type 0} (b : Bool) {f g : Unit {0} → Parse A}
-    → ((u : Unit {0}) → Gives P (f u)) → ((u : Unit {0}) → Gives P (g u)) → Gives P (if b then f else g)
+    → ((u : Unit {0}) → Gives P (f u)) → ((u : Unit {0}) → Gives P (g u)) → Gives P (if b give f else g)
 branches true p q = p tt
 branches false p q = q tt
 
 -- the same where it matters how the test came out
 pub decides : {A : Type 0} {P : A → Type 0} (b : Bool) {f g : Unit {0} → Parse A}
-    → ((u : Unit {0}) → b ≡ true → Gives P (f u)) → ((u : Unit {0}) → b ≡ false → Gives P (g u)) → Gives P (if b then f else g)
+    → ((u : Unit {0}) → b ≡ true → Gives P (f u)) → ((u : Unit {0}) → b ≡ false → Gives P (g u)) → Gives P (if b give f else g)
 decides true p q = p tt refl
 decides false p q = q tt refl
 

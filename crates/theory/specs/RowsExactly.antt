@@ -9,7 +9,7 @@ use native.Mathlib.Omega.{arith}
 use Rattle.std.proofs.Math.Decide.{dec_le}
 use Rattle.std.proofs.Math.ListN.{length, get_or-eq_default}
 use Rattle.word.specs.Fields as W
-use Rattle.meaning.specs.Answers.{Outcome, ok, refuse, fine, if◌then◌else◌}
+use Rattle.meaning.specs.Answers.{Outcome, ok, refuse, fine, if◌give◌else◌}
 use Rattle.meaning.specs.Searches.{least, orElse, mem}
 use Rattle.meaning.specs.Syntax.{Variable, Table, TableSet}
 use Rattle.meaning.specs.Lookup.{definedBy, tableOf, isSome, hasTable}
@@ -41,7 +41,7 @@ split [] v h = absurd (true-not-false h refl)
 split (t ∷ ts) v h = go (eqb (definedBy t) v) refl (λ k. split ts v k) h
   where
     go : (b : Bool) → eqb (definedBy t) v ≡ b → (isSome (tableOf ts v) ≡ true → Split ts v)
-        → isSome (if b then (λ _. some t) else (λ _. tableOf ts v)) ≡ true → Split (t ∷ ts) v
+        → isSome (if b give (λ _. some t) else (λ _. tableOf ts v)) ≡ true → Split (t ∷ ts) v
     go true e ih k = record { before = []; table = t; after = ts; all = refl; its = eqb-true e; none-before = refl }
     go false e ih k =
         let s = ih k in
@@ -59,7 +59,7 @@ none-of : (t : Table) (ts : List Table) (v : ℕ) → hasTable (t ∷ ts) v ≡ 
 unfolding hasTable tableOf isSome
 none-of t ts v h = go (eqb (definedBy t) v) h
   where
-    go : (b : Bool) → isSome (if b then (λ _. some t) else (λ _. tableOf ts v)) ≡ false → (b ≡ false) × (isSome (tableOf ts v) ≡ false)
+    go : (b : Bool) → isSome (if b give (λ _. some t) else (λ _. tableOf ts v)) ≡ false → (b ≡ false) × (isSome (tableOf ts v) ≡ false)
     go true k = absurd (true-not-false refl k)
     go false k = (refl, k)
 
