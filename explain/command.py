@@ -7,13 +7,11 @@ from explain.events import add_events
 from explain.one_state import State
 from explain.output import NotWritten, complain, put, put_lines, wrapped
 from explain.passes import Pass
-from explain.program import checked
+from explain.program import DONE, NO_VERDICT, REFUSED, STOPPED, checked
 from explain.refusals import Explainer
 from explain.show import is_whole, shown
 from explain.source import BadInput, from_data
 from explain.version import version_line
-
-DONE, REFUSED, NO_VERDICT, STOPPED = 0, 1, 2, 3
 
 # 8,192 words with long comments have less; a device that never ends must not fill the memory.
 MOST_BYTES = 1 << 22

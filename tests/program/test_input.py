@@ -1,10 +1,11 @@
 """That the program reads all of its input (the first 32,768 bytes) however it comes, and writes all of its output: what it prints is byte by byte
-what the oracle's program prints. Where a read fails it prints nothing, and where a write fails it doesn't keep silent. No contract says so of `main`.
-Nor does one say what stack it needs."""
+what the oracle's program prints. Where a read fails it prints nothing, and where a write fails it doesn't keep silent. The exit status goes with what is
+printed. No contract says so of `main`. Nor does one say what stack it needs."""
 import fcntl
 import functools
 import itertools
 import os
+import re
 import resource
 import signal
 import socket
@@ -26,25 +27,34 @@ if not os.path.exists(PROVED):
 SET_A, STORED, BIGGEST, LONGEST, DEEPEST = set_a(), stored(), biggest(), longest_output(), deepest()
 # Bytes handed over at a time, again and again. Most break a word.
 PIECES = (1, 3, 4096, 5, 2, 4099, 7, 1000)
-# All that standard error says where the input can't be read, and where the output can't be written.
-NO_VERDICT = b"scrcheck: standard input can't be read to its end: no verdict\n"
-NOT_COMPLETE = b"scrcheck: standard output can't be written: the verdict is not complete\n"
+# All that standard error says where the input can't be read, and where the output can't be written; the system's reason follows.
+NO_VERDICT = b"scrcheck: standard input can't be read to its end: no verdict"
+NOT_COMPLETE = b"scrcheck: standard output can't be written: the verdict is not complete"
 
 
-def printed(command, given):
-    return subprocess.run(command, input=given, stdout=subprocess.PIPE, check=True).stdout
+def printed(given):
+    """What the program prints; its exit status is the one that goes with it."""
+    status, output, said = ran(input=given)
+    if (status, said) != (status_of(output), b""):
+        raise AssertionError(f"status {status} and {said!r} for an output that begins {output[:40]!r}")
+    return output
+
+
+def status_of(output):
+    """0 for a pass with all events done, 1 for a refusal, 3 for a pass after which not all is done."""
+    return 1 if output.startswith(b"REFUSE") else 3 if b"REFUSE" in output else 0
 
 
 @functools.cache
 def expected(given):
-    return printed([ORACLE, "program"], given)
+    return subprocess.run([ORACLE, "program"], input=given, stdout=subprocess.PIPE, check=True).stdout
 
 
 def ran(command=(PROVED,), **streams):
-    """The exit status and all that is printed to standard output and error, with these for its streams."""
+    """The exit status and all that is printed to standard output and error, with these for its streams; of a fault the system's reason is left out."""
     streams = {"stdout": subprocess.PIPE, "stderr": subprocess.PIPE, **streams}
     done = subprocess.run(command, check=False, **streams)
-    return done.returncode, done.stdout, done.stderr
+    return done.returncode, done.stdout, re.sub(rb" \([^()]+ \(os error [0-9]+\)\)\n$", b"", done.stderr)
 
 
 def ran_on_a_socket(given, broken):
@@ -111,7 +121,7 @@ class Input(unittest.TestCase):
 
     def all_done(self, given):
         """Each event has its line, so that the last words show."""
-        output = printed([PROVED], given)
+        output = printed(given)
         self.same(output, given)
         self.assertEqual((output[:5], output.count(b"\n")), (b"PASS ", 1 + 4096))
 
@@ -134,7 +144,7 @@ class Input(unittest.TestCase):
 
     def test_what_stands_beyond_is_ignored(self):
         for more in (b"\1", BIGGEST[-4:], bytes(40000)):
-            output = printed([PROVED], BIGGEST + more)
+            output = printed(BIGGEST + more)
             self.same(output, BIGGEST + more)
             self.same(output, BIGGEST)
 
@@ -150,7 +160,7 @@ class Input(unittest.TestCase):
 
     def test_an_empty_input(self):
         self.assertEqual(expected(b""), b"REFUSE 1 0\n")
-        self.same(printed([PROVED], b""), b"")
+        self.same(printed(b""), b"")
 
     def test_nothing_is_read_after_the_end(self):
         # Each read takes one message. An empty one ends the input, as a terminal does, after which more might come.
@@ -160,7 +170,7 @@ class Input(unittest.TestCase):
                 for message in [*messages, b"more"]:
                     ours.send(message)
                 ours.close()
-                self.assertEqual(ran(stdin=theirs), (0, expected(b"".join(messages)), b""))
+                self.assertEqual(ran(stdin=theirs), (status_of(expected(b"".join(messages))), expected(b"".join(messages)), b""))
                 self.assertEqual(theirs.recv(100), b"more")
 
 
@@ -171,31 +181,31 @@ class Failing(unittest.TestCase):
             self.assertEqual(expected(given)[:5], b"PASS ")
             for cut in (0, 1, 2, 3):
                 part = given[: len(given) - cut]
-                self.assertEqual(ran_on_a_socket(part, broken=True), (0, b"", NO_VERDICT))
-                self.assertEqual(ran_on_a_socket(part, broken=False), (0, expected(part), b""))
+                self.assertEqual(ran_on_a_socket(part, broken=True), (2, b"", NO_VERDICT))
+                self.assertEqual(ran_on_a_socket(part, broken=False), (status_of(expected(part)), expected(part), b""))
 
     def test_a_read_that_would_have_to_wait(self):
         theirs, ours = os.pipe()
         with open(theirs, "rb") as stdin, open(ours, "wb", buffering=0) as pipe:
             os.set_blocking(theirs, False)
             pipe.write(SET_A)
-            self.assertEqual(ran(stdin=stdin), (0, b"", NO_VERDICT))
+            self.assertEqual(ran(stdin=stdin), (2, b"", NO_VERDICT))
 
     def test_a_first_read_that_fails(self):
-        self.assertEqual(ran_on_a_socket(b"", broken=True), (0, b"", NO_VERDICT))
-        self.assertEqual(ran(["sh", "-c", 'exec "$0" <&-', PROVED]), (0, b"", NO_VERDICT))
-        self.assertEqual(ran(["sh", "-c", 'exec "$0" <.', PROVED]), (0, b"", NO_VERDICT))
+        self.assertEqual(ran_on_a_socket(b"", broken=True), (2, b"", NO_VERDICT))
+        self.assertEqual(ran(["sh", "-c", 'exec "$0" <&-', PROVED]), (2, b"", NO_VERDICT))
+        self.assertEqual(ran(["sh", "-c", 'exec "$0" <.', PROVED]), (2, b"", NO_VERDICT))
 
     def test_output_that_cannot_be_written(self):
         for command in ('exec "$0" >/dev/full', 'exec "$0" >&-'):
-            self.assertEqual(ran(["sh", "-c", command, PROVED], input=SET_A), (0, b"", NOT_COMPLETE))
+            self.assertEqual(ran(["sh", "-c", command, PROVED], input=SET_A), (2, b"", NOT_COMPLETE))
 
     def test_output_of_which_a_part_is_written(self):
         ours, theirs = os.pipe()
         with open(ours, "rb", buffering=0) as pipe, open(theirs, "wb") as stdout:
             room = fcntl.fcntl(pipe, fcntl.F_SETPIPE_SZ, 4096)
             os.set_blocking(theirs, False)
-            self.assertEqual(ran(input=LONGEST, stdout=stdout), (0, None, NOT_COMPLETE))
+            self.assertEqual(ran(input=LONGEST, stdout=stdout), (2, None, NOT_COMPLETE))
             self.assertEqual(pipe.read(2 * room), expected(LONGEST)[:room])
 
 

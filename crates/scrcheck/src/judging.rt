@@ -5,6 +5,12 @@ use crate::input::read_to_end;
 use std::io::{Read, Write};
 use std::{fmt, io};
 
+const DONE: u8 = 0;
+
+const REFUSED: u8 = 1;
+
+const STOPPED: u8 = 3;
+
 // Why there is no verdict, or not all of it.
 #[derive(Drop)]
 pub enum Fault {
@@ -31,8 +37,20 @@ impl fmt::Display for Fault {
     }
 }
 
+// The exit status by what is printed: 0 the set passes and all events are done, 1 it is refused, 3 it passes, but not all events are done. Only PASS has a P, and only
+// REFUSE has an R.
+fn status_of(text: &[u8]) -> u8 {
+    if !text.contains(&b'P') {
+        REFUSED
+    } else if text.contains(&b'R') {
+        STOPPED
+    } else {
+        DONE
+    }
+}
+
 // The first 8,192 words are looked at. What stands beyond them is ignored, a broken word too.
-pub fn judge<R: Read, W: Write>(input: &mut R, output: &mut W) -> Result<(), Fault>
+pub fn judge<R: Read, W: Write>(input: &mut R, output: &mut W) -> Result<u8, Fault>
     ensures { Judges result (R.remaining input.old) (W.contents output.old) (W.contents output.new) }
 {
     let mut bytes = [0u8; report::MAX_INPUT];
@@ -42,8 +60,9 @@ pub fn judge<R: Read, W: Write>(input: &mut R, output: &mut W) -> Result<(), Fau
     };
     let mut text = [0u8; report::MAX_OUTPUT];
     let end = report::report(&bytes[..n], &mut text);
+    let status = status_of(&text[..end]);
     match output.write_all(&text[..end]) {
-        Ok(()) => Ok(()),
+        Ok(()) => Ok(status),
         Err(fault) => Err(Fault::Output(fault)),
     }
 }

@@ -6,12 +6,12 @@ mod judging; // the input judged, the verdict written
 
 use std::process::ExitCode;
 
-// No verdict, or not all of it. A verdict that was printed whole, whatever it says, ends with 0.
+// No verdict, or not all of it.
 const NO_VERDICT: u8 = 2;
 
 fn main(rt: HostRuntime) -> ExitCode {
     match judging::judge(&mut rt.stdin(), &mut rt.stdout()) {
-        Ok(()) => ExitCode::SUCCESS,
+        Ok(status) => ExitCode::from(status),
         Err(fault) => {
             let _ = eprintln!(rt; "scrcheck: {fault}");
             ExitCode::from(NO_VERDICT)

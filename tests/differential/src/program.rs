@@ -7,10 +7,11 @@ use std::process::{Command, Stdio};
 /// What it prints for an input, or in words why it did not end well.
 pub fn printed(program: &Path, input: &[u8]) -> Result<Vec<u8>, String> {
     let output = run(program, input).map_err(|error| error.to_string())?;
-    if output.status.success() {
-        return Ok(output.stdout);
+    match output.status.code() {
+        // By 2, or a signal, a program says that there is no answer; by 1 and 3 the checker tells of a refusal.
+        Some(0 | 1 | 3) => Ok(output.stdout),
+        _ => Err(output.status.to_string()),
     }
-    Err(output.status.to_string())
 }
 
 fn run(program: &Path, input: &[u8]) -> io::Result<std::process::Output> {
