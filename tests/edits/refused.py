@@ -1,20 +1,15 @@
 #!/usr/bin/env python3
-"""Asks of every must-fail edit whether a fact of its own refused it.
+"""Asks of every must-fail edit whether the fact that it names is what refused it.
 
-rt tries each crates/CRATE/must-fail/*.edit in one run of the prover and calls the run refused if anything in it is. A file may hold several
-edits, each with a line that says what must fail:
+rt calls an edit refused if anything in the crate is not proved with it. Each crates/CRATE/must-fail/LABEL.edit says what that must be, in one line:
 
-    must: LABEL FILE NAME        the definition NAME of FILE, a proof file or a file of cases, is refused
-    must: LABEL fn FUNCTION      a fact of the function, which has no proof file, is left open
+    must: FILE NAME
 
-Contracts shield callers: what a function's body does shows in its own proof file and nowhere else. So edits of different functions may share a run.
-This program holds them to it: after `rt ci`, or `rt must-fail`, it reads the logs and asks that
+FILE is the file, and NAME the definition or the goal in it, that stand first in what rt prints of the edit. This reads what `rt ci` or `rt must-fail` printed
+and asks that every edit has one such line and was refused, without a reservation, by a fact of that name. An error that tells only of a name that is gone, of a
+step that finds nothing to rewrite, or of something that was refused before, is no fact.
 
-- every edit has such a line, and no two edits of a crate the same label;
-- the edits of one run name different files, and no fact fails in a file that none of them names;
-- each line is met by a fact that fails, not by a name that is missing or by something else that was refused before it.
-
-    python3 tests/edits/refused.py [CRATE...]      all crates, or those named
+    python3 tests/edits/refused.py FILE [CRATE..]      what was printed is in the file, or in standard input if that is -; all crates, or those named
 """
 
 import re
@@ -23,13 +18,16 @@ from pathlib import Path
 
 ROOT = Path(__file__).resolve().parents[2]
 
-# An error that shows nothing: what it needs was refused already, a name of the edit or of the proof does not exist, or a step of the proof finds
-# nothing to rewrite, so that it no longer fits what it speaks of, be that true or false.
-EMPTY = (
+REFUSED = "refused, as it must be: "
+
+# rt prints so much of the first error.
+CUT = 160
+
+NO_FACT = (
     "was not admitted",
-    "is not in scope",
     "not in scope",
     "can be named",
+    "has no field",
     "cannot be unfolded because",
     "is not a module",
     "`rw`: no occurrence",
@@ -37,95 +35,67 @@ EMPTY = (
 )
 
 
-class Edit:
-    def __init__(self, label, file, name):
-        self.label, self.file, self.name = label, file, name
-        self.pairs = 0
+def wanted(text):
+    """The file and the name of the edit's line, and what is wrong with its form."""
+    lines = [line for line in text.splitlines() if line.startswith("must:")]
+    if len(lines) != 1:
+        return None, f"it has {len(lines)} lines 'must: FILE NAME', and not one"
+    parts = re.fullmatch(r"must: (\S+) (\S+)", lines[0])
+    return (parts.groups(), None) if parts else (None, f"not 'must: FILE NAME': {lines[0]}")
 
 
-def edits_of(path):
-    """The edits of a file, and what is wrong with its form."""
-    edits, faults = [], []
-    for number, line in enumerate(path.read_text().splitlines(), 1):
-        if line.startswith("must:"):
-            parts = line.split()
-            if len(parts) != 4:
-                faults.append(f"line {number}: not 'must: LABEL FILE NAME'")
-                parts = (parts + ["?"] * 4)[:4]
-            edits.append(Edit(*parts[1:]))
-        elif line.startswith("new:"):
-            if edits:
-                edits[-1].pairs += 1
-            else:
-                faults.append(f"line {number}: an edit without a 'must:' line before it")
-    faults += [f"{e.label}: nothing is edited" for e in edits if e.pairs == 0]
-    files = [(e.file, e.name) if e.file == "fn" else e.file for e in edits]
-    faults += [f"{f}: two edits of one run name it" for f in sorted({str(f) for f in files if files.count(f) > 1})]
-    return edits, faults
+def tried(printed):
+    """What was printed of each edit, by crate and label."""
+    found = {}
+    for line in printed.splitlines():
+        told = re.match(r"rt: must-fail (\w+)/(\S+)\.edit: (.*)", line)
+        if told:
+            found[told[1], told[2]] = told[3]
+    return found
 
 
-def failed_facts(log, run):
-    """The (file, definition) pairs of the log at which a fact fails, and the functions without a proof file that have an open one."""
-    facts, bare = set(), set()
-    for line in log.splitlines():
-        error = re.match(r"(\S+?):\d+:\d+: error: `([^`]+)`: (.*)", line)
-        if error:
-            path, name, said = error.groups()
-            if not any(empty in said for empty in EMPTY):
-                facts.add((path.split(f"/{run}/", 1)[-1], name))
-        function = re.match(r"fn (\S+): no proof: .*does not close", line)
-        if function:
-            bare.add(function.group(1))
-    return facts, bare
+def wrong(told, file, name):
+    """Why what was printed of an edit is not that the fact `name` of the file refused it, or None."""
+    if not told.startswith(REFUSED):
+        return f"rt does not call it refused by a fact: {told[:CUT]}"
+    first = told.removeprefix(REFUSED)
+    place = re.match(r"(?:note: )?(?:\./)?(\S+?):\d+:\d+: (.*)", first)
+    if not place or place[1] != file:
+        return f"not in {file}: {first}"
+    if any(it in first for it in NO_FACT):
+        return f"no fact: {first}"
+    # an error begins with the name, a note of an open goal has it behind what is not proved
+    named = re.match(r"error: `(.+)", place[2]) or re.match(r".*?\(`(.+)", place[2])
+    found, is_whole, _ = named[1].partition("`") if named else ("", "`", "")
+    if found == name if is_whole else len(first) == CUT and name.startswith(found):
+        return None
+    return f"not by {name}: {first}"
 
 
-def only_code(text):
-    """Whether a file of edits changes nothing but code and the proof files of functions, whose callers a contract shields."""
-    return all(re.match(r"file: (src/|proofs/.*/Proof\.antt$)", line) for line in text.splitlines() if line.startswith("file:"))
-
-
-def judged(edits, facts, bare, of_code):
-    """What is wrong with the edits of one run, by what failed in it."""
-    faults = []
-    for e in edits:
-        met = e.name in bare if e.file == "fn" else (e.file, e.name) in facts
-        if not met:
-            seen = sorted(name for file, name in facts if file == e.file)
-            faults.append(f"{e.label}: {e.name} of {e.file} does not fail" + (f"; these do: {' '.join(seen)}" if seen else ""))
-    if of_code:
-        own = {e.file for e in edits}
-        faults += [f"a fact fails in {file}, which no edit names: {name}" for file, name in sorted(facts) if file not in own]
-    return faults
-
-
-def main(crates):
-    refused, bad = 0, 0
-    labels = set()
+def main(crates, printed):
+    found, faults, refused = tried(printed), [], 0
     for path in sorted(ROOT.glob("crates/*/must-fail/*.edit")):
-        crate, run = path.parts[-3], path.stem
+        crate, label = path.parts[-3], path.stem
         if crates and crate not in crates:
             continue
-        edits, faults = edits_of(path)
-        for e in edits:
-            if (crate, e.label) in labels:
-                faults.append(f"{e.label}: an edit of this crate has that label already")
-            labels.add((crate, e.label))
-        log = ROOT / "target" / "must-fail" / crate / run / ".log"
-        if not log.exists():
-            faults.append("it was not tried: no log")
-        elif not faults:
-            facts, bare = failed_facts(log.read_text(errors="replace"), run)
-            faults = judged(edits, facts, bare, only_code(path.read_text()))
-        for fault in faults:
-            print(f"{crate}/must-fail/{path.name}: {fault}")
-        bad += len(faults)
-        refused += len(edits)
-    if bad or not refused:
-        print(f"edits: {bad} faults", file=sys.stderr)
+        fact, fault = wanted(path.read_text())
+        if not fault:
+            told = found.get((crate, label))
+            fault = wrong(told, *fact) if told else "it was not tried"
+        if fault:
+            faults.append(f"{crate}/{label}: {fault}")
+        else:
+            refused += 1
+    for fault in faults:
+        print(fault)
+    if faults or not refused:
+        print(f"edits: {refused} refused by the fact that they name, {len(faults)} not", file=sys.stderr)
         return 1
-    print(f"{refused} must-fail edits refused, each by a fact of its own")
+    print(f"{refused} must-fail edits refused, each by the fact that it names")
     return 0
 
 
 if __name__ == "__main__":
-    sys.exit(main(sys.argv[1:]))
+    if len(sys.argv) < 2:
+        sys.exit(__doc__)
+    sys.exit(main(sys.argv[2:], sys.stdin.read() if sys.argv[1] == "-" else Path(sys.argv[1]).read_text(errors="replace")))

@@ -1,77 +1,126 @@
-"""That refused.py tells an edit refused by a fact of its own from one that is not."""
+"""That refused.py tells an edit refused by the fact that it names from one that is not."""
 
+import contextlib
+import io
 import tempfile
 import unittest
 from pathlib import Path
 
 import refused
 
-TWO = """# one
-must: first proofs/a/Proof.antt returns
+EDIT = """# one
+must: proofs/a/Answers.antt returns
 file: src/lib.rt
 old: a
 new: b
-
-# two
-must: second proofs/b/Proof.antt loop-again
-file: src/lib.rt
-old: c
-new: d
 """
 
-LOG = """/t/must-fail/x/1/proofs/a/Proof.antt:3:4: error: `returns`: `search`: no proof of `p` was found.
-/t/must-fail/x/1/proofs/a/Proof.antt:9:4: error: `a-spec`: `returns` was not admitted (it has holes), so this cannot be checked
-/t/must-fail/x/1/proofs/b/Proof.antt:3:4: error: `loop-again`: the two types differ
-fn x::c: no proof: expected `c-spec` in /t/must-fail/x/1/proofs/c/Proof.antt; `search` does not close `returns`
-fn x::e: no proof: expected `e-spec` in /t/must-fail/x/1/proofs/e/Proof.antt; it calls `x::a`, which is not proved
-"""
+ERROR = "./proofs/a/Answers.antt:7:13: error: `returns`: `search`: no proof of `c.result ≡ 0` was found."
+NOTE = "note: src/lib.rt:9:1: it is not proved that what the function ensures holds when it returns (`returns-then-x`)"
 
 
-def faults(edits, log=LOG, of_code=True):
-    with tempfile.TemporaryDirectory() as folder:
-        path = Path(folder) / "1.edit"
-        path.write_text(edits)
-        found, wrong = refused.edits_of(path)
-    return wrong or refused.judged(found, *refused.failed_facts(log, "1"), of_code)
+def said(first):
+    return "refused, as it must be: " + first[: refused.CUT]
 
 
-class Refused(unittest.TestCase):
-    def test_both_refused(self):
-        self.assertEqual(faults(TWO), [])
+class Wanted(unittest.TestCase):
+    def test_a_line(self):
+        self.assertEqual(refused.wanted(EDIT), (("proofs/a/Answers.antt", "returns"), None))
 
-    def test_another_need(self):
-        self.assertIn("first: returns-2", faults(TWO.replace("antt returns", "antt returns-2"))[0])
+    def test_no_line_or_two(self):
+        for text in (EDIT.replace("must", "may"), EDIT.replace("must", "# must"), EDIT + "must: src/lib.rt returns\n"):
+            self.assertIn("and not one", refused.wanted(text)[1])
 
-    def test_refused_for_no_fact(self):
-        for said in (
-            "`p` was not admitted",
-            "`true` is not in scope",
-            "it has no `Need-returns` that can be named",
-            "`rw`: no occurrence of the path's left endpoint in the goal",
+    def test_another_form(self):
+        for line in ("must: returns", "must: label proofs/a/Answers.antt returns", "must:proofs/a/Answers.antt returns"):
+            self.assertIn("not 'must: FILE NAME'", refused.wanted(line)[1])
+
+
+class Wrong(unittest.TestCase):
+    def test_an_error(self):
+        self.assertIsNone(refused.wrong(said(ERROR), "proofs/a/Answers.antt", "returns"))
+
+    def test_a_note(self):
+        self.assertIsNone(refused.wrong(said(NOTE), "src/lib.rt", "returns-then-x"))
+
+    def test_a_note_that_says_more(self):
+        for more in ("; `search` gave up at one of its limits", "; the facts known there allow values (`x` = `0`)"):
+            self.assertIsNone(refused.wrong(said(NOTE + more), "src/lib.rt", "returns-then-x"))
+
+    def test_another_name(self):
+        for name in ("returns-2", "return", "search"):
+            self.assertIn("not by", refused.wrong(said(ERROR), "proofs/a/Answers.antt", name))
+        for name in ("returns-then-x-2", "returns-then", "returns"):
+            self.assertIn("not by", refused.wrong(said(NOTE), "src/lib.rt", name))
+
+    def test_another_file(self):
+        self.assertIn("not in", refused.wrong(said(ERROR), "proofs/b/Answers.antt", "returns"))
+        self.assertIn("not in", refused.wrong(said(NOTE), "src/other.rt", "returns-then-x"))
+
+    def test_a_name_that_is_cut(self):
+        long = NOTE.replace("returns-then-x", "returns-then-" + "x" * 90)
+        self.assertIsNone(refused.wrong(said(long), "src/lib.rt", "returns-then-" + "x" * 90))
+        self.assertIn("not by", refused.wrong(said(long), "src/lib.rt", "returns-else-" + "x" * 90))
+        self.assertIn("not by", refused.wrong(said(long), "src/lib.rt", "returns-then"))
+
+    def test_no_name(self):
+        for first in (
+            "proofs/a/Answers.antt:7:13: error: the file cannot be read",
+            NOTE[: NOTE.index("returns-then-x")],
+            "note: src/lib.rt:9:1: " + "it is not proved " * 20 + "(`returns`)",
         ):
-            log = LOG.replace("the two types differ", said)
-            self.assertEqual(len(faults(TWO, log)), 1)
+            self.assertIsNotNone(refused.wrong(said(first), first.removeprefix("note: ").partition(":")[0], "returns"))
 
-    def test_an_edit_that_reaches_beyond_its_function(self):
-        self.assertIn("which no edit names", faults(TWO.split("\n\n")[0])[0])
-        self.assertEqual(faults(TWO.split("\n\n")[0], of_code=False), [])
+    def test_no_fact(self):
+        for why in ("`p` was not admitted", "`true` is not in scope", "it has no `returns` that can be named", "`rw`: no occurrence of the path's left endpoint"):
+            self.assertIn("no fact", refused.wrong(said(f"proofs/a/Answers.antt:7:13: error: `returns`: {why}"), "proofs/a/Answers.antt", "returns"))
 
-    def test_an_edit_of_a_proof_file_is_of_code(self):
-        self.assertTrue(refused.only_code(TWO + "file: proofs/b/Proof.antt\n"))
-        for other in ("proofs/Laws.antt", "specs/Text.antt"):
-            self.assertFalse(refused.only_code(TWO + f"file: {other}\n"))
+    def test_not_refused_by_a_fact(self):
+        for told in (
+            "refused, as it must be",
+            f"refused, as it must be (only because a proof file names what the edit took away, so this says little of the contract): {ERROR}",
+            f"refused, as it must be (only by a limit of the prover, which gave no verdict): {ERROR}",
+            "NOT REFUSED: the crate is still proved with this edit",
+            "BAD EDIT: an 'old:' text is in src/lib.rt 0 times, and not once",
+            "NOT TRIED: its check was killed, most likely for memory, so nothing is known of it: run this again",
+        ):
+            self.assertIn("rt does not call it", refused.wrong(told, "proofs/a/Answers.antt", "returns"))
 
-    def test_two_edits_of_one_function(self):
-        self.assertIn("two edits of one run", faults(TWO.replace("proofs/b", "proofs/a"))[0])
 
-    def test_a_function_without_a_proof_file(self):
-        self.assertEqual(faults(TWO.replace("proofs/b/Proof.antt loop-again", "fn x::c"), of_code=False), [])
-        for other in ("fn x::d", "fn x::e"):
-            self.assertIn("does not fail", faults(TWO.replace("proofs/b/Proof.antt loop-again", other), of_code=False)[0])
+class Main(unittest.TestCase):
+    def status(self, printed, crates=()):
+        """The status and what is printed, of a repository with the edits a/one and b/one."""
+        with tempfile.TemporaryDirectory() as folder, contextlib.redirect_stdout(io.StringIO()) as out, contextlib.redirect_stderr(out):
+            for crate in "ab":
+                edits = Path(folder) / "crates" / crate / "must-fail"
+                edits.mkdir(parents=True)
+                (edits / "one.edit").write_text(EDIT)
+            root, refused.ROOT = refused.ROOT, Path(folder)
+            try:
+                return refused.main(crates, printed), out.getvalue()
+            finally:
+                refused.ROOT = root
 
-    def test_an_edit_without_a_line(self):
-        self.assertIn("without a 'must:' line", faults(TWO.replace("must: first proofs/a/Proof.antt returns\n", ""))[0])
-        self.assertIn("nothing is edited", faults("must: first proofs/a/Proof.antt returns\n")[0])
+    def test_all(self):
+        printed = "a proved\n" + "".join(f"rt: must-fail {crate}/one.edit: {said(ERROR)}\n" for crate in "ab") + "4 passed, 0 failed\n"
+        self.assertEqual(self.status(printed), (0, "2 must-fail edits refused, each by the fact that it names\n"))
+
+    def test_one_not_tried(self):
+        printed = f"rt: must-fail a/one.edit: {said(ERROR)}\n"
+        status, out = self.status(printed)
+        self.assertEqual(status, 1)
+        self.assertIn("b/one: it was not tried", out)
+        self.assertEqual(self.status(printed, ["a"])[0], 0)
+        self.assertEqual(self.status(printed, ["b"])[0], 1)
+
+    def test_one_refused_by_another(self):
+        status, out = self.status("".join(f"rt: must-fail {crate}/one.edit: {said(first)}\n" for crate, first in (("a", ERROR), ("b", NOTE))))
+        self.assertEqual(status, 1)
+        self.assertIn("b/one: not in proofs/a/Answers.antt", out)
+        self.assertNotIn("a/one", out)
+
+    def test_none(self):
+        self.assertEqual(self.status("", ["c"])[0], 1)
 
 
 if __name__ == "__main__":
