@@ -1,8 +1,8 @@
 """docs/ARCHITECTURE.md has a line for every crate, in an order that fits crates.txt, and a line for every module; README.md's picture has every
 crate; links of the documents lead somewhere.
 
-A module is a file of src/, specs/ or proofs/ of a crate, in subfolders too. The proofs of single functions (Proof.antt) and the roots
-(Lib.antt) have no line. A line stands in the section of its crate and names the module by its path there: `src/sweep.rt` or, without .antt,
+A module is a file of src/, specs/ or proofs/ of a crate, in subfolders too. The proofs of single functions (Answers.antt and Invariants.antt in a folder of the
+function's) and the roots (Lib.antt) have no line. A line stands in the section of its crate and names the module by its path there: `src/sweep.rt` or, without .antt,
 `proofs/Laws`."""
 import glob
 import os
@@ -13,7 +13,7 @@ ROOT = os.path.dirname(os.path.dirname(os.path.dirname(os.path.abspath(__file__)
 ARCHITECTURE = "docs/ARCHITECTURE.md"
 DOCUMENTS = ("README.md", "docs/*.md", "docs/*/*.md", "examples/*.md", "tests/*/*.md")
 FOLDERS = {"src": ".rt", "specs": ".antt", "proofs": ".antt"}
-NO_MODULES = ("Lib.antt", "Proof.antt")
+NO_MODULE = re.compile(r"/Lib\.antt$|/proofs/.+/(Answers|Invariants)\.antt$")
 
 
 def text_of(name):
@@ -28,7 +28,7 @@ def files(pattern):
 def dependencies():
     """What crates.txt says: each crate, and what it depends on."""
     lines = [line.split("#")[0].partition(":") for line in text_of("crates.txt").splitlines()]
-    return {name.strip(): needed.split() for name, colon, needed in lines if colon}
+    return {name.split()[0]: needed.split() for name, colon, needed in lines if colon}
 
 
 def crates_told():
@@ -40,7 +40,7 @@ def crates_told():
 
 def modules():
     found = [name for folder, end in FOLDERS.items() for name in files(f"crates/*/{folder}/**/*{end}")]
-    return {name for name in found if os.path.basename(name) not in NO_MODULES}
+    return {name for name in found if not NO_MODULE.search(name)}
 
 
 def modules_told():
