@@ -102,4 +102,5 @@ def main():
         step_time(words, walk(words, seed))
 
 
-main()
+if __name__ == "__main__":
+    main()

@@ -75,4 +75,5 @@ def main():
         compare(name, options.seed, commands, shapes)
 
 
-main()
+if __name__ == "__main__":
+    main()
