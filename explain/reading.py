@@ -175,8 +175,8 @@ class Reading:
             f"change {w.sort(word)} is neither 1 nor 2": w.kind(word) == w.CHANGE and w.sort(word) not in (w.TO_TRUE, w.TO_FALSE),
             "the constant true is no event": w.kind(word) == w.CONSTANT and word & 1 == 1,
         })
-        operand = {w.OR: self.read_event, w.CHANGE: self.read_condition}.get(w.kind(word))
-        operands = [operand(depth + 1), operand(depth + 1)] if operand else []
+        operand = self.read_event if w.kind(word) == w.OR else self.read_condition
+        operands = [operand(depth + 1) for _ in range(w.operands(word))]
         return Formula(index, word, operands, self.at)
 
     def read_condition(self, depth):
@@ -184,8 +184,7 @@ class Reading:
         self.within(depth - 1, w.MOST_DEPTH, index, "levels of a formula")
         if w.kind(word) == w.TEST:
             self.read_test(index, word)
-        count = {w.NOT: 1, w.AND: 2, w.OR: 2}.get(w.kind(word), 0)
-        operands = [self.read_condition(depth + 1) for _ in range(count)]
+        operands = [self.read_condition(depth + 1) for _ in range(w.operands(word))]
         return Formula(index, word, operands, self.at)
 
     def read_test(self, index, word):

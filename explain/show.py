@@ -27,8 +27,7 @@ def begun(words):
         index, word = next(following, (None, None))
         if word is None:
             return None
-        count = {w.NOT: 1, w.AND: 2, w.OR: 2, w.CHANGE: 2}.get(w.kind(word), 0)
-        return Formula(index, word, [formula() for _ in range(count)], len(words))
+        return Formula(index, word, [formula() for _ in range(w.operands(word))], len(words))
 
     return formula()
 

@@ -1,8 +1,8 @@
 """What --version prints. A change request of document 02 that lands adds its number here."""
 VERSION = "1.0"
-REQUESTS = ()
+REQUESTS = ("2.2",)
 
 
 def version_line():
-    requests = f"with the requests {', '.join(REQUESTS)} of document 02" if REQUESTS else "without requests of document 02"
-    return f"scr of Kengatipo {VERSION}, for sets by document 01 {requests}"
+    requests = f"with request{'s' * (len(REQUESTS) > 1)} {', '.join(REQUESTS)}" if REQUESTS else "without requests"
+    return f"scr of Kengatipo {VERSION}, for sets by document 01 {requests} of document 02"

@@ -34,6 +34,9 @@ KINDS = {
     INPUT: "input event",
 }
 
+# How many formulas follow a word of each kind, from kind 0 to kind 15 (document 02, 2.2).
+OPERANDS = [0, 0, 0, 0, 0, 1, 2, 2, 2, 0, 0, 0, 0, 0, 0, 0]
+
 # The bits below the kind that document 01 names; all others are spare and must be zero.
 NAMED_BITS = {
     VARIABLE: 0x0FFFFFFF,
@@ -61,6 +64,11 @@ def kind(word):
 def sort(word):
     """Class of a variable, type of a table or of an assertion, code of a change."""
     return field(word, 27, 24)
+
+
+def operands(word):
+    """How many formulas follow the word."""
+    return OPERANDS[kind(word)]
 
 
 def spare_bits(word):

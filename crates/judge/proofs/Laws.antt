@@ -57,32 +57,39 @@ unfolding judgeAt
 judge-unroll ws b zero at nz h = absurd (nz refl)
 judge-unroll ws b (suc n) at nz h = rw (h, sub-one (suc n))
 
-module _ (ws b : List ℕ) (n at w k : ℕ) (nz : n ≡ 0 → ⊥) (h : at < length ws)
-    (ew : w ≡ word ws at) (ek : k ≡ W.kind w) where
+module _ (ws b : List ℕ) (n at w o : ℕ) (nz : n ≡ 0 → ⊥) (h : at < length ws) (ew : w ≡ word ws at) (eo : o ≡ W.operands w) where
   judge-arm : (r : Judged) → r ≡ judgeBy b (judgeAt ws b (n - 1)) w at → r ≡ judgeAt ws b n at
   judge-arm r e = e ∙ rw ew (judge-unroll ws b n at nz (lt-leb (length ws) at h))
 
-  pub judge-test : (v : Bool) → k ≡ 4 → v ≡ true-in b (testOf w) → record { value = v; next = at + 1 } ≡ judgeAt ws b n at
-  unfolding judgeBy
-  judge-test v e ev = judge-arm _ (rw (← ek, e, ev, add-one at))
+  -- no operand follows
+  module _ (k : ℕ) (z : o ≡ 0) (ek : k ≡ W.kind w) where
+    pub judge-test : (v : Bool) → k ≡ 4 → v ≡ true-in b (testOf w) → record { value = v; next = at + 1 } ≡ judgeAt ws b n at
+    unfolding judgeBy
+    judge-test v e ev = judge-arm _ (rw (← eo, z, ← ek, e, ev, add-one at))
 
-  pub judge-constant : (t : ℕ) → k ≡ 9 → t ≡ W.truth w → record { value = eqb t 1; next = at + 1 } ≡ judgeAt ws b n at
-  unfolding judgeBy
-  judge-constant t e et = judge-arm _ (rw (← ek, e, et, add-one at))
+    pub judge-constant : (t : ℕ) → (k ≡ 4 → ⊥) → t ≡ W.truth w → record { value = eqb t 1; next = at + 1 } ≡ judgeAt ws b n at
+    unfolding judgeBy
+    judge-constant t n4 et = judge-arm _ (rw (← eo, z, ← ek, ne_eqb k 4 n4, et, add-one at))
 
-  pub judge-not : (c : Judged) → k ≡ 5 → c ≡ judgeAt ws b (n - 1) (at + 1)
-      → record { value = not c.value; next = c.next } ≡ judgeAt ws b n at
-  unfolding judgeBy
-  judge-not c e ec = judge-arm _ (rw (← ek, e, ec, add-one at))
+  pub judge-operator : (r : Judged) → r ≡ judgeBy b (judgeAt ws b (n - 1)) w at → r ≡ judgeAt ws b n at
+  judge-operator = judge-arm
 
-  pub judge-two : (c d : Judged) (v : Bool) → (k ≡ 4 → ⊥) → (k ≡ 9 → ⊥) → (k ≡ 5 → ⊥)
-      → c ≡ judgeAt ws b (n - 1) (at + 1) → d ≡ judgeAt ws b (n - 1) c.next → v ≡ joinedBy k c.value d.value
-      → record { value = v; next = d.next } ≡ judgeAt ws b n at
-  unfolding judgeBy
-  judge-two c d v n4 n9 n5 ec ed ev =
-      judge-arm _ (rw (← ek, ne_eqb k 4 n4, ne_eqb k 9 n9, ne_eqb k 5 n5, ev, ed, ec, add-one at))
+pub ruleset judge-laws = (judge-none, judge-past, judge-test, judge-constant, judge-operator)
 
-pub ruleset judge-laws = (judge-none, judge-past, judge-test, judge-constant, judge-not, judge-two)
+-- ---- judge_operator
+module _ (ws b : List ℕ) (d at w o : ℕ) (eo : o ≡ W.operands w) (c : Judged) (ec : c ≡ judgeAt ws b d (at + 1)) where
+  pub operator-two : (e : Judged) (k : ℕ) (v : Bool) → o ≡ 2 → e ≡ judgeAt ws b d c.next → k ≡ W.kind w → v ≡ joinedBy k c.value e.value
+      → record { value = v; next = e.next } ≡ judgeBy b (judgeAt ws b d) w at
+  unfolding judgeBy
+  operator-two e k v two ee ek ev = rw (← eo, two, ← ek, ev, ee, ec, add-one at)
+
+  -- the table has no other count left
+  pub operator-one : (W.operands w ≡ 0 → ⊥) → (o ≡ 2 → ⊥) → o < 3
+      → record { value = not c.value; next = c.next } ≡ judgeBy b (judgeAt ws b d) w at
+  unfolding judgeBy
+  operator-one nz n2 l = let one : o ≡ 1 = omega (arith, n2, l, λ (z : o ≡ 0). nz (sym eo ∙ z)) in rw (← eo, one, ec, add-one at)
+
+pub ruleset operator-laws = (operator-two, operator-one)
 
 -- ---- a change
 pub change-true : (s : ℕ) (x y z : Bool) → s ≡ 1 → (not x && y && z) ≡ changedBy s x y z
@@ -119,27 +126,27 @@ unfolding judgeEventAt
 event-unroll ws a b zero at nz h = absurd (nz refl)
 event-unroll ws a b (suc n) at nz h = rw (h, sub-one (suc n))
 
-module _ (ws a b : List ℕ) (n at w k : ℕ) (nz : n ≡ 0 → ⊥) (h : at < length ws)
-    (ew : w ≡ word ws at) (ek : k ≡ W.kind w) where
+module _ (ws a b : List ℕ) (n at w o : ℕ) (nz : n ≡ 0 → ⊥) (h : at < length ws)
+    (ew : w ≡ word ws at) (eo : o ≡ W.operands w) where
   event-arm : (r : Judged) → r ≡ judgeEventBy (judgeEventAt ws a b (n - 1)) (changeAt ws a b (n - 1)) w at
       → r ≡ judgeEventAt ws a b n at
   event-arm r e = e ∙ rw ew (event-unroll ws a b n at nz (lt-leb (length ws) at h))
 
-  pub event-never : k ≡ 9 → record { value = false; next = at + 1 } ≡ judgeEventAt ws a b n at
-  unfolding judgeEventBy
-  event-never e = event-arm _ (rw (← ek, e, add-one at))
+  module _ (k : ℕ) (ek : k ≡ W.kind w) (e : o ≡ 2) where
+    pub event-or : (c d : Judged) → k ≡ 7 → c ≡ judgeEventAt ws a b (n - 1) (at + 1) → d ≡ judgeEventAt ws a b (n - 1) c.next
+        → record { value = c.value || d.value; next = d.next } ≡ judgeEventAt ws a b n at
+    unfolding judgeEventBy
+    event-or c d e7 ec ed = event-arm _ (rw (← eo, e, ← ek, e7, ed, ec, add-one at))
 
-  pub event-or : (c d : Judged) → k ≡ 7 → c ≡ judgeEventAt ws a b (n - 1) (at + 1) → d ≡ judgeEventAt ws a b (n - 1) c.next
-      → record { value = c.value || d.value; next = d.next } ≡ judgeEventAt ws a b n at
-  unfolding judgeEventBy
-  event-or c d e ec ed = event-arm _ (rw (← ek, e, ed, ec, add-one at))
+    pub event-change : (r : Judged) → (k ≡ 7 → ⊥) → r ≡ changeAt ws a b (n - 1) w (at + 1) → r ≡ judgeEventAt ws a b n at
+    unfolding judgeEventBy
+    event-change r n7 er = event-arm r (rw (← eo, e, ← ek, ne_eqb k 7 n7, er, add-one at))
 
-  pub event-change : (r : Judged) → (k ≡ 9 → ⊥) → (k ≡ 7 → ⊥) → r ≡ changeAt ws a b (n - 1) w (at + 1)
-      → r ≡ judgeEventAt ws a b n at
+  pub event-never : (o ≡ 2 → ⊥) → record { value = false; next = at + 1 } ≡ judgeEventAt ws a b n at
   unfolding judgeEventBy
-  event-change r n9 n7 er = event-arm r (rw (← ek, ne_eqb k 9 n9, ne_eqb k 7 n7, er, add-one at))
+  event-never n2 = event-arm _ (rw (← eo, ne_eqb o 2 n2, add-one at))
 
-pub ruleset event-laws = (event-none, event-past, event-never, event-or, event-change)
+pub ruleset event-laws = (event-none, event-past, event-or, event-change, event-never)
 
 -- ---- rows
 pub mode-law : (m x : ℕ) → (eqb m Max.any || eqb m x) ≡ modeIs m x

@@ -87,29 +87,30 @@ condition-agrees : (vs : List Variable) (b : List ℕ) (read : ℕ → Read Cond
     → ((i : ℕ) → Agrees (true-in b) (read i) (judge i)) → (w i : ℕ)
     → Agrees (true-in b) (conditionBy vs read w i) (judgeBy b judge w i)
 unfolding conditionBy judgeBy true-in
-condition-agrees vs b read judge agree w i = go (eqb (W.kind w) 4) (eqb (W.kind w) 9) (eqb (W.kind w) 5)
+condition-agrees vs b read judge agree w i = go (eqb (W.operands w) 2) (eqb (W.operands w) 1) (eqb (W.kind w) 4)
   where
     go : (x y z : Bool)
         → Agrees (true-in b)
-        (if x give (λ _. expect (testOk vs w) 3 i >>> λ _. fine (testOf w, suc i))
-        else λ _. if y give (λ _. fine (constant (eqb (W.truth w) 1), suc i))
-        else λ _. if z give (λ _. read (suc i) >>> λ r. fine (negation r.0, r.1))
-        else λ _. (read (suc i) >>> λ r. read r.1 >>> λ q. fine (joined (eqb (W.kind w) 6) r.0 q.0, q.1)))
-        (if x give (λ _. record { value = true-in b (testOf w); next = suc i })
-        else λ _. if y give (λ _. record { value = eqb (W.truth w) 1; next = suc i })
-        else λ _. if z give (λ _. record { value = not (judge (suc i)).value; next = (judge (suc i)).next })
-        else λ _. record {
+        (if x give (λ _. read (suc i) >>> λ r. read r.1 >>> λ q. fine (joined (eqb (W.kind w) 6) r.0 q.0, q.1))
+        else λ _. if y give (λ _. read (suc i) >>> λ r. fine (negation r.0, r.1))
+        else λ _. if z give (λ _. expect (testOk vs w) 3 i >>> λ _. fine (testOf w, suc i))
+        else λ _. fine (constant (eqb (W.truth w) 1), suc i))
+        (if x
+        give (λ _. record {
           value = joinedBy (W.kind w) (judge (suc i)).value (judge (judge (suc i)).next).value;
           next = (judge (judge (suc i)).next).next;
         })
+        else λ _. if y give (λ _. record { value = not (judge (suc i)).value; next = (judge (suc i)).next })
+        else λ _. if z give (λ _. record { value = true-in b (testOf w); next = suc i })
+        else λ _. record { value = eqb (W.truth w) 1; next = suc i })
     go true y z =
-        expected (λ (m : Read Condition). Agrees (true-in b) m (record { value = true-in b (testOf w); next = suc i })) (λ n k. tt)
-        (testOk vs w) 3 i (fine (testOf w, suc i)) refl
-    go false true z = refl
-    go false false true = one-agrees (true-in b) (true-in b) negation not (λ c. refl) (read (suc i)) (judge (suc i)) (agree (suc i))
-    go false false false =
         two-agrees (true-in b) (true-in b) read judge agree (joined (eqb (W.kind w) 6)) (joinedBy (W.kind w)) (join-means b (W.kind w))
         (read (suc i)) (judge (suc i)) (agree (suc i))
+    go false true z = one-agrees (true-in b) (true-in b) negation not (λ c. refl) (read (suc i)) (judge (suc i)) (agree (suc i))
+    go false false true =
+        expected (λ (m : Read Condition). Agrees (true-in b) m (record { value = true-in b (testOf w); next = suc i })) (λ n k. tt)
+        (testOk vs w) 3 i (fine (testOf w, suc i)) refl
+    go false false false = refl
 
 agrees : (ws : List ℕ) (vs : List Variable) (b : List ℕ) (d i : ℕ) → Agrees (true-in b) (readCondition ws vs d i) (judgeAt ws b d i)
 unfolding readCondition judgeAt mem
@@ -147,28 +148,32 @@ event-agrees : (a b : List ℕ) (event : ℕ → Read Event) (judge : ℕ → Ju
     → ((i : ℕ) → Agrees (true-in a) (condition i) (before i)) → ((i : ℕ) → Agrees (true-in b) (condition i) (after i))
     → (w i : ℕ) → Agrees (happens a b) (eventBy event condition w i) (judgeEventBy judge (changeBy before after) w i)
 unfolding eventBy judgeEventBy changeBy happens
-event-agrees a b event judge agree condition before after agree-a agree-b w i = go (eqb (W.kind w) 9) (eqb (W.kind w) 7)
+event-agrees a b event judge agree condition before after agree-a agree-b w i = go (eqb (W.operands w) 2) (eqb (W.kind w) 7)
   where
     go : (x y : Bool)
         → Agrees (happens a b)
-        (if x give (λ _. expect (eqb (W.truth w) 0) 3 i >>> λ _. fine (never, suc i))
-        else λ _. if y give (λ _. event (suc i) >>> λ r. event r.1 >>> λ q. fine (one-of r.0 q.0, q.1))
+        (if x
+        give (λ _.
+        if y give (λ _. event (suc i) >>> λ r. event r.1 >>> λ q. fine (one-of r.0 q.0, q.1))
         else λ _. (expect (within 1 2 (W.sort w)) 3 i >>> λ _. condition (suc i) >>> λ r. condition r.1 >>> λ q.
         fine (changed (eqb (W.sort w) 1) r.0 q.0, q.1)))
-        (if x give (λ _. record { value = false; next = suc i })
-        else λ _. if y
+        else λ _. (expect (eqb (W.truth w) 0) 3 i >>> λ _. fine (never, suc i)))
+        (if x
+        give (λ _.
+        if y
         give (λ _. record {
           value = (judge (suc i)).value || (judge (judge (suc i)).next).value;
           next = (judge (judge (suc i)).next).next;
         })
         else λ _. changeBy before after w (suc i))
-    go true y =
+        else λ _. record { value = false; next = suc i })
+    go false y =
         expected (λ (m : Read Event). Agrees (happens a b) m (record { value = false; next = suc i })) (λ n k. tt)
         (eqb (W.truth w) 0) 3 i (fine (never, suc i)) refl
-    go false true =
+    go true true =
         two-agrees (happens a b) (happens a b) event judge agree one-of ◌||◌ (λ e f. refl)
         (event (suc i)) (judge (suc i)) (agree (suc i))
-    go false false =
+    go true false =
         expected (λ (m : Read Event). Agrees (happens a b) m (changeBy before after w (suc i))) (λ n k. tt)
         (within 1 2 (W.sort w)) 3 i
         (condition (suc i) >>> λ r. condition r.1 >>> λ q. fine (changed (eqb (W.sort w) 1) r.0 q.0, q.1))

@@ -19,13 +19,14 @@ joinedBy k x y = cond (eqb k 6) (x && y) (x || y)
 -- the condition whose first word w stands at i; `rec` judges an operand
 unfoldable pub judgeBy : List ℕ → (ℕ → Judged) → ℕ → ℕ → Judged
 judgeBy b rec w i =
-    if eqb (W.kind w) 4 give (λ _. record { value = true-in b (testOf w); next = suc i })
-    else λ _. if eqb (W.kind w) 9 give (λ _. record { value = eqb (W.truth w) 1; next = suc i })
-    else λ _. if eqb (W.kind w) 5 give (λ _. record { value = not (rec (suc i)).value; next = (rec (suc i)).next })
-    else λ _. record {
+    if eqb (W.operands w) 2
+    give (λ _. record {
       value = joinedBy (W.kind w) (rec (suc i)).value (rec (rec (suc i)).next).value;
       next = (rec (rec (suc i)).next).next;
-    }
+    })
+    else λ _. if eqb (W.operands w) 1 give (λ _. record { value = not (rec (suc i)).value; next = (rec (suc i)).next })
+    else λ _. if eqb (W.kind w) 4 give (λ _. record { value = true-in b (testOf w); next = suc i })
+    else λ _. record { value = eqb (W.truth w) 1; next = suc i }
 
 -- the condition at i, at most so many levels deep, at the values b; past the end false
 unfoldable pub judgeAt : List ℕ → List ℕ → ℕ → ℕ → Judged
@@ -53,10 +54,12 @@ changeAt ws a b d w i = changeBy (judgeAt ws a d) (judgeAt ws b d) w i
 -- the event whose first word w stands at i; `change` judges a change word before a place
 unfoldable pub judgeEventBy : (ℕ → Judged) → (ℕ → ℕ → Judged) → ℕ → ℕ → Judged
 judgeEventBy rec change w i =
-    if eqb (W.kind w) 9 give (λ _. record { value = false; next = suc i })
-    else λ _. if eqb (W.kind w) 7
+    if eqb (W.operands w) 2
+    give (λ _.
+    if eqb (W.kind w) 7
     give (λ _. record { value = (rec (suc i)).value || (rec (rec (suc i)).next).value; next = (rec (rec (suc i)).next).next })
-    else λ _. change w (suc i)
+    else λ _. change w (suc i))
+    else λ _. record { value = false; next = suc i }
 
 -- the event at i in the step from the values a to the values b
 unfoldable pub judgeEventAt : List ℕ → List ℕ → List ℕ → ℕ → ℕ → Judged

@@ -1,18 +1,19 @@
 // Conditions, events and rows of a table, judged straight from the words of a set that has been read.
-// A formula is judged from its first word on; where it ends is found on the way, so no tree is built and no place is kept.
+// A formula is judged from its first word on; where it ends is found on the way, so no tree is built and no place is kept. The table of operand
+// counts says how many operands follow a word.
 #![tactic(auto)]
 
-ghost use Rattle.std.specs.Prelude.{◌≡◌, ◌&&◌, eqb};
+ghost use Rattle.std.specs.Prelude.{◌≡◌, ◌&&◌, ◌<◌, eqb, length};
 ghost use Rattle.word.specs.Fields as W;
 ghost use Rattle.word.specs.Limits as Max;
 ghost use Rattle.meaning.specs.Reading.{word, testOf};
 ghost use Rattle.meaning.specs.Steps.{true-in, modeIs};
-ghost use Rattle.judge.specs.Judge.{joinedBy, judgeAt, changedBy, changeAt, judgeEventAt, addRow, conditionRowsAt, eventRowsAt};
+ghost use Rattle.judge.specs.Judge.{joinedBy, judgeBy, judgeAt, changedBy, changeAt, judgeEventAt, addRow, conditionRowsAt, eventRowsAt};
 
 use index::{value_of, word_at};
 use word::{
-    AND, BECOMES_TRUE, CONSTANT, EQUALS, EVERY_MODE, MAX_DEPTH, MAX_ROWS, NOT, OR, ROW, TEST,
-    Value, given, kind, mode, relation, sort, truth, variable,
+    AND, BECOMES_TRUE, EQUALS, EVERY_MODE, MAX_DEPTH, MAX_ROWS, OR, ROW, TEST, Value, given, kind,
+    mode, operands, relation, sort, truth, variable,
 };
 
 // A formula's truth, and the place after it.
@@ -52,6 +53,7 @@ fn joined(k: u32, a: bool, b: bool) -> bool
 }
 
 // The condition at a place, at most `left` levels deep.
+#[cycle(judge)]
 pub fn judge(words: &[u32], values: &[Value], at: usize, left: usize) -> Judged
     ensures { result ≡ judgeAt words.now values.now left at }
 {
@@ -68,32 +70,44 @@ pub fn judge(words: &[u32], values: &[Value], at: usize, left: usize) -> Judged
         };
     }
     let w = word_at(words, at);
-    let on = at + 1;
     let d = left - 1;
-    let k = kind(w);
-    match k {
-        TEST => Judged {
-            value: holds(w, values),
-            next: on,
-        },
-        CONSTANT => Judged {
-            value: truth(w) == 1,
-            next: on,
-        },
-        NOT => {
-            let a = judge(words, values, on, d);
+    if operands(w) == 0 {
+        if kind(w) == TEST {
             Judged {
-                value: !a.value,
-                next: a.next,
+                value: holds(w, values),
+                next: at + 1,
+            }
+        } else {
+            Judged {
+                value: truth(w) == 1,
+                next: at + 1,
             }
         }
-        _ => {
-            let a = judge(words, values, on, d);
-            let b = judge(words, values, a.next, d);
-            Judged {
-                value: joined(k, a.value, b.value),
-                next: b.next,
-            }
+    } else {
+        judge_operator(words, values, w, at, d)
+    }
+}
+
+// The condition of an operator w at a place, its operands at most `left` levels deep. Apart from `judge` and not inlined, so that a test, as most words
+// are, is judged without a call of its own.
+#[cycle(judge)]
+#[inline(never)]
+fn judge_operator(words: &[u32], values: &[Value], w: u32, at: usize, left: usize) -> Judged
+    requires { (at < length words.now) × (W.operands w ≡ 0 → ⊥) }
+    ensures { result ≡ judgeBy values.now (judgeAt words.now values.now left) w at }
+{
+    if operands(w) == 2 {
+        let a = judge(words, values, at + 1, left);
+        let b = judge(words, values, a.next, left);
+        Judged {
+            value: joined(kind(w), a.value, b.value),
+            next: b.next,
+        }
+    } else {
+        let a = judge(words, values, at + 1, left);
+        Judged {
+            value: !a.value,
+            next: a.next,
         }
     }
 }
@@ -155,21 +169,23 @@ pub fn judge_event(
     let w = word_at(words, at);
     let on = at + 1;
     let d = left - 1;
-    let k = kind(w);
-    match k {
-        CONSTANT => Judged {
+    match operands(w) {
+        2 => {
+            if kind(w) == OR {
+                let a = judge_event(words, before, after, on, d);
+                let b = judge_event(words, before, after, a.next, d);
+                Judged {
+                    value: a.value | b.value,
+                    next: b.next,
+                }
+            } else {
+                judge_change(words, before, after, w, on, d)
+            }
+        }
+        _ => Judged {
             value: false,
             next: on,
         },
-        OR => {
-            let a = judge_event(words, before, after, on, d);
-            let b = judge_event(words, before, after, a.next, d);
-            Judged {
-                value: a.value | b.value,
-                next: b.next,
-            }
-        }
-        _ => judge_change(words, before, after, w, on, d),
     }
 }
 

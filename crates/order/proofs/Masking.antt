@@ -68,7 +68,7 @@ test-tests w b = go (eqb (W.relation w) 0) ∙ eqb-swap (W.variable w) b
 module _ (vs : List Variable) (rp : ℕ → Read Condition) (rj : ℕ → Masked) (ih : (i : ℕ) → Agrees tests (rp i) (rj i)) where
   condition-by : (w i : ℕ) → Agrees tests (conditionBy vs rp w i) (conditionMaskBy rj w i)
   unfolding conditionBy conditionMaskBy tests
-  condition-by w i = go (eqb (W.kind w) 4) (eqb (W.kind w) 9) (eqb (W.kind w) 5)
+  condition-by w i = go (eqb (W.operands w) 2) (eqb (W.operands w) 1) (eqb (W.kind w) 4)
     where
       test : (t : Bool) → Agrees tests (expect t 3 i >>> λ _. fine (testOf w, suc i)) (record { mask = oneBit (W.variable w); next = suc i })
       test true = (refl, λ b l. test-tests w b ∙ sym (bit-of (W.variable w) b l))
@@ -80,18 +80,18 @@ module _ (vs : List Variable) (rp : ℕ → Read Condition) (rj : ℕ → Masked
 
       go : (x y z : Bool)
           → Agrees tests
-          (if x give (λ _. expect (testOk vs w) 3 i >>> λ _. fine (testOf w, suc i))
-          else λ _. if y give (λ _. fine (constant (eqb (W.truth w) 1), suc i))
-          else λ _. if z give (λ _. rp (suc i) >>> λ r. fine (negation r.0, r.1))
-          else λ _. (rp (suc i) >>> λ r. rp r.1 >>> λ q. fine (joined (eqb (W.kind w) 6) r.0 q.0, q.1)))
-          (if x give (λ _. record { mask = oneBit (W.variable w); next = suc i })
-          else λ _. if y give (λ _. nothingAt (suc i))
-          else λ _. if z give (λ _. rj (suc i))
-          else λ _. bothFrom rj (suc i))
-      go true y z = test (testOk vs w)
-      go false true z = (refl, λ b l. sym (zero-at b))
-      go false false true = negated (rp (suc i)) (rj (suc i)) (ih (suc i))
-      go false false false =
+          (if x give (λ _. rp (suc i) >>> λ r. rp r.1 >>> λ q. fine (joined (eqb (W.kind w) 6) r.0 q.0, q.1))
+          else λ _. if y give (λ _. rp (suc i) >>> λ r. fine (negation r.0, r.1))
+          else λ _. if z give (λ _. expect (testOk vs w) 3 i >>> λ _. fine (testOf w, suc i))
+          else λ _. fine (constant (eqb (W.truth w) 1), suc i))
+          (if x give (λ _. bothFrom rj (suc i))
+          else λ _. if y give (λ _. rj (suc i))
+          else λ _. if z give (λ _. record { mask = oneBit (W.variable w); next = suc i })
+          else λ _. nothingAt (suc i))
+      go false true z = negated (rp (suc i)) (rj (suc i)) (ih (suc i))
+      go false false true = test (testOk vs w)
+      go false false false = (refl, λ b l. sym (zero-at b))
+      go true y z =
           then-agrees tests tests tests (joined (eqb (W.kind w) 6)) bit_or
           (λ c d m n b ec ed. joined-tests (eqb (W.kind w) 6) c d b ∙ or-bits (tests b c) (tests b d) m n b ec ed)
           rp rj ih (rp (suc i)) (rj (suc i)) (ih (suc i))
@@ -105,7 +105,7 @@ changed-changes false c d b = refl
 module _ (rp : ℕ → Read Event) (rj : ℕ → Masked) (ih : (i : ℕ) → Agrees changes (rp i) (rj i)) (cp : ℕ → Read Condition) (cj : ℕ → Masked) (ic : (i : ℕ) → Agrees tests (cp i) (cj i)) where
   event-by : (w i : ℕ) → Agrees changes (eventBy rp cp w i) (eventMaskBy rj cj w i)
   unfolding eventBy eventMaskBy changes
-  event-by w i = go (eqb (W.kind w) 9) (eqb (W.kind w) 7)
+  event-by w i = go (eqb (W.operands w) 2) (eqb (W.kind w) 7)
     where
       none : (t : Bool) → Agrees changes (expect t 3 i >>> λ _. fine (never, suc i)) (nothingAt (suc i))
       none true = (refl, λ b l. sym (zero-at b))
@@ -122,18 +122,20 @@ module _ (rp : ℕ → Read Event) (rj : ℕ → Masked) (ih : (i : ℕ) → Agr
 
       go : (x y : Bool)
           → Agrees changes
-          (if x give (λ _. expect (eqb (W.truth w) 0) 3 i >>> λ _. fine (never, suc i))
-          else λ _. if y give (λ _. rp (suc i) >>> λ r. rp r.1 >>> λ q. fine (one-of r.0 q.0, q.1))
+          (if x
+          give (λ _.
+          if y give (λ _. rp (suc i) >>> λ r. rp r.1 >>> λ q. fine (one-of r.0 q.0, q.1))
           else λ _. (expect (within 1 2 (W.sort w)) 3 i >>> λ _. cp (suc i) >>> λ r. cp r.1 >>> λ q.
           fine (changed (eqb (W.sort w) 1) r.0 q.0, q.1)))
-          (if x give (λ _. nothingAt (suc i))
-          else λ _. if y give (λ _. bothFrom rj (suc i))
-          else λ _. firstFrom cj (suc i))
-      go true y = none (eqb (W.truth w) 0)
-      go false true =
+          else λ _. (expect (eqb (W.truth w) 0) 3 i >>> λ _. fine (never, suc i)))
+          (if x
+          give (λ _. if y give (λ _. bothFrom rj (suc i)) else λ _. firstFrom cj (suc i))
+          else λ _. nothingAt (suc i))
+      go false y = none (eqb (W.truth w) 0)
+      go true true =
           then-agrees changes changes changes one-of bit_or (λ e f m n b ee ef. or-bits (changes b e) (changes b f) m n b ee ef)
           rp rj ih (rp (suc i)) (rj (suc i)) (ih (suc i))
-      go false false = change (within 1 2 (W.sort w))
+      go true false = change (within 1 2 (W.sort w))
 
 -- ---- levels: a word that fits is there
 level : {A : Type 0} (sees : ℕ → A → Bool) (ws kinds : List ℕ) (i : ℕ) → mem 0 kinds ≡ false → (f : ℕ → Read A) (j : Masked)

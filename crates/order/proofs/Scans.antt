@@ -39,29 +39,31 @@ unfolding conditionMask
 condition-here ws zero at nz h = absurd (nz refl)
 condition-here ws (suc n) at nz h = rw (h, sub-one (suc n))
 
-module _ (ws : List ℕ) (n at w k : ℕ) (nz : n ≡ 0 → ⊥) (h : at < length ws) (ew : w ≡ word ws at) (ek : k ≡ W.kind w) where
+module _ (ws : List ℕ) (n at w o : ℕ) (nz : n ≡ 0 → ⊥) (h : at < length ws) (ew : w ≡ word ws at) (eo : o ≡ W.operands w) where
   condition-by : (r : Masked) → r ≡ conditionMaskBy (conditionMask ws (n - 1)) w at → r ≡ conditionMask ws n at
   condition-by r e = e ∙ rw ew (condition-here ws n at nz (lt-leb (length ws) at h))
 
-  pub condition-test : (v m : ℕ) → k ≡ 4 → v ≡ W.variable w → m ≡ oneBit v
-      → record { mask = m; next = at + 1 } ≡ conditionMask ws n at
+  pub condition-two : (a b : Masked) → o ≡ 2 → a ≡ conditionMask ws (n - 1) (at + 1) → b ≡ conditionMask ws (n - 1) a.next
+      → record { mask = bit_or a.mask b.mask; next = b.next } ≡ conditionMask ws n at
   unfolding conditionMaskBy
-  condition-test v m e ev em = condition-by _ (rw (← ek, e, em, ev, add-one at))
+  condition-two a b e ea eb = condition-by _ (rw (← eo, e, eb, ea, add-one at))
 
-  pub condition-constant : k ≡ 9 → record { mask = 0; next = at + 1 } ≡ conditionMask ws n at
+  pub condition-not : (a : Masked) → o ≡ 1 → a ≡ conditionMask ws (n - 1) (at + 1) → a ≡ conditionMask ws n at
   unfolding conditionMaskBy
-  condition-constant e = condition-by _ (rw (← ek, e, add-one at))
+  condition-not a e ea = condition-by _ (rw (← eo, e, ea, add-one at))
 
-  pub condition-not : (a : Masked) → k ≡ 5 → a ≡ conditionMask ws (n - 1) (at + 1) → a ≡ conditionMask ws n at
-  unfolding conditionMaskBy
-  condition-not a e ea = condition-by _ (rw (← ek, e, ea, add-one at))
+  -- no operand follows
+  module _ (k : ℕ) (n2 : o ≡ 2 → ⊥) (n1 : o ≡ 1 → ⊥) (ek : k ≡ W.kind w) where
+    pub condition-test : (v m : ℕ) → k ≡ 4 → v ≡ W.variable w → m ≡ oneBit v
+        → record { mask = m; next = at + 1 } ≡ conditionMask ws n at
+    unfolding conditionMaskBy
+    condition-test v m e ev em = condition-by _ (rw (← eo, ne_eqb o 2 n2, ne_eqb o 1 n1, ← ek, e, em, ev, add-one at))
 
-  pub condition-two : (a b : Masked) → (k ≡ 4 → ⊥) → (k ≡ 9 → ⊥) → (k ≡ 5 → ⊥) → a ≡ conditionMask ws (n - 1) (at + 1)
-      → b ≡ conditionMask ws (n - 1) a.next → record { mask = bit_or a.mask b.mask; next = b.next } ≡ conditionMask ws n at
-  unfolding conditionMaskBy
-  condition-two a b n4 n9 n5 ea eb = condition-by _ (rw (← ek, ne_eqb k 4 n4, ne_eqb k 9 n9, ne_eqb k 5 n5, eb, ea, add-one at))
+    pub condition-constant : (k ≡ 4 → ⊥) → record { mask = 0; next = at + 1 } ≡ conditionMask ws n at
+    unfolding conditionMaskBy
+    condition-constant n4 = condition-by _ (rw (← eo, ne_eqb o 2 n2, ne_eqb o 1 n1, ← ek, ne_eqb k 4 n4, add-one at))
 
-pub ruleset condition-laws = (condition-none, condition-past, condition-test, condition-constant, condition-not, condition-two)
+pub ruleset condition-laws = (condition-none, condition-past, condition-two, condition-not, condition-test, condition-constant)
 
 -- ---- events
 pub event-none : (ws : List ℕ) (n at : ℕ) → n ≡ 0 → record { mask = 0; next = at } ≡ eventMask ws n at
@@ -82,25 +84,26 @@ unfolding eventMask
 event-here ws zero at nz h = absurd (nz refl)
 event-here ws (suc n) at nz h = rw (h, sub-one (suc n))
 
-module _ (ws : List ℕ) (n at w k : ℕ) (nz : n ≡ 0 → ⊥) (h : at < length ws) (ew : w ≡ word ws at) (ek : k ≡ W.kind w) where
+module _ (ws : List ℕ) (n at w o : ℕ) (nz : n ≡ 0 → ⊥) (h : at < length ws) (ew : w ≡ word ws at) (eo : o ≡ W.operands w) where
   event-by : (r : Masked) → r ≡ eventMaskBy (eventMask ws (n - 1)) (conditionMask ws (n - 1)) w at → r ≡ eventMask ws n at
   event-by r e = e ∙ rw ew (event-here ws n at nz (lt-leb (length ws) at h))
 
-  pub event-constant : k ≡ 9 → record { mask = 0; next = at + 1 } ≡ eventMask ws n at
-  unfolding eventMaskBy
-  event-constant e = event-by _ (rw (← ek, e, add-one at))
+  module _ (k : ℕ) (e : o ≡ 2) (ek : k ≡ W.kind w) where
+    pub event-or : (a b : Masked) → k ≡ 7 → a ≡ eventMask ws (n - 1) (at + 1) → b ≡ eventMask ws (n - 1) a.next
+        → record { mask = bit_or a.mask b.mask; next = b.next } ≡ eventMask ws n at
+    unfolding eventMaskBy
+    event-or a b e7 ea eb = event-by _ (rw (← eo, e, ← ek, e7, eb, ea, add-one at))
 
-  pub event-or : (a b : Masked) → k ≡ 7 → a ≡ eventMask ws (n - 1) (at + 1) → b ≡ eventMask ws (n - 1) a.next
-      → record { mask = bit_or a.mask b.mask; next = b.next } ≡ eventMask ws n at
-  unfolding eventMaskBy
-  event-or a b e ea eb = event-by _ (rw (← ek, e, eb, ea, add-one at))
+    pub event-change : (a b : Masked) → (k ≡ 7 → ⊥) → a ≡ conditionMask ws (n - 1) (at + 1)
+        → b ≡ conditionMask ws (n - 1) a.next → record { mask = a.mask; next = b.next } ≡ eventMask ws n at
+    unfolding eventMaskBy
+    event-change a b n7 ea eb = event-by _ (rw (← eo, e, ← ek, ne_eqb k 7 n7, eb, ea, add-one at))
 
-  pub event-change : (a b : Masked) → (k ≡ 9 → ⊥) → (k ≡ 7 → ⊥) → a ≡ conditionMask ws (n - 1) (at + 1)
-      → b ≡ conditionMask ws (n - 1) a.next → record { mask = a.mask; next = b.next } ≡ eventMask ws n at
+  pub event-constant : (o ≡ 2 → ⊥) → record { mask = 0; next = at + 1 } ≡ eventMask ws n at
   unfolding eventMaskBy
-  event-change a b n9 n7 ea eb = event-by _ (rw (← ek, ne_eqb k 9 n9, ne_eqb k 7 n7, eb, ea, add-one at))
+  event-constant n2 = event-by _ (rw (← eo, ne_eqb o 2 n2, add-one at))
 
-pub ruleset event-laws = (event-none, event-past, event-constant, event-or, event-change)
+pub ruleset event-laws = (event-none, event-past, event-or, event-change, event-constant)
 
 -- ---- the formula of a row
 module _ (ws : List ℕ) (t at : ℕ) (r : Masked) where

@@ -24,16 +24,16 @@ firstFrom f i = record { mask = (f i).mask; next = (f (f i).next).next }
 -- ---- formulas, by their first word w at place i; `rec` and `cond` scan an operand
 unfoldable pub conditionMaskBy : (ℕ → Masked) → ℕ → ℕ → Masked
 conditionMaskBy rec w i =
-    if eqb (W.kind w) 4 give (λ _. record { mask = oneBit (W.variable w); next = suc i })
-    else λ _. if eqb (W.kind w) 9 give (λ _. nothingAt (suc i))
-    else λ _. if eqb (W.kind w) 5 give (λ _. rec (suc i))
-    else λ _. bothFrom rec (suc i)
+    if eqb (W.operands w) 2 give (λ _. bothFrom rec (suc i))
+    else λ _. if eqb (W.operands w) 1 give (λ _. rec (suc i))
+    else λ _. if eqb (W.kind w) 4 give (λ _. record { mask = oneBit (W.variable w); next = suc i })
+    else λ _. nothingAt (suc i)
 
 unfoldable pub eventMaskBy : (ℕ → Masked) → (ℕ → Masked) → ℕ → ℕ → Masked
 eventMaskBy rec cond w i =
-    if eqb (W.kind w) 9 give (λ _. nothingAt (suc i))
-    else λ _. if eqb (W.kind w) 7 give (λ _. bothFrom rec (suc i))
-    else λ _. firstFrom cond (suc i)
+    if eqb (W.operands w) 2
+    give (λ _. if eqb (W.kind w) 7 give (λ _. bothFrom rec (suc i)) else λ _. firstFrom cond (suc i))
+    else λ _. nothingAt (suc i)
 
 module _ (ws : List ℕ) where
   unfoldable pub conditionMask : ℕ → ℕ → Masked

@@ -11,8 +11,8 @@ ghost use Rattle.order.specs.Orders.{covered, untakenBy, readyBy, leastReady, fo
 use index::bits::{bit, mask_of, one_bit};
 use index::{place_of, word_at};
 use word::{
-    CONDITION_TABLE, CONSTANT, CYCLE_MOVES, MAX_DEPTH, MAX_ROWS, MAX_VARIABLES, NOT, OR, ROW, TEST,
-    class_read, kind, sort, variable,
+    CONDITION_TABLE, CYCLE_MOVES, MAX_DEPTH, MAX_ROWS, MAX_VARIABLES, OR, ROW, TEST, class_read,
+    kind, operands, sort, variable,
 };
 
 // What a formula reads, and the place after it.
@@ -36,19 +36,24 @@ pub fn condition_mask(words: &[u32], at: usize, left: usize) -> Masked
     let w = word_at(words, at);
     let on = at + 1;
     let d = left - 1;
-    match kind(w) {
-        TEST => Masked {
-            mask: one_bit(variable(w) as usize),
-            next: on,
-        },
-        CONSTANT => Masked { mask: 0, next: on },
-        NOT => condition_mask(words, on, d),
-        _ => {
+    match operands(w) {
+        2 => {
             let a = condition_mask(words, on, d);
             let b = condition_mask(words, a.next, d);
             Masked {
                 mask: a.mask | b.mask,
                 next: b.next,
+            }
+        }
+        1 => condition_mask(words, on, d),
+        _ => {
+            if kind(w) == TEST {
+                Masked {
+                    mask: one_bit(variable(w) as usize),
+                    next: on,
+                }
+            } else {
+                Masked { mask: 0, next: on }
             }
         }
     }
@@ -67,24 +72,25 @@ pub fn event_mask(words: &[u32], at: usize, left: usize) -> Masked
     let w = word_at(words, at);
     let on = at + 1;
     let d = left - 1;
-    match kind(w) {
-        CONSTANT => Masked { mask: 0, next: on },
-        OR => {
-            let a = event_mask(words, on, d);
-            let b = event_mask(words, a.next, d);
-            Masked {
-                mask: a.mask | b.mask,
-                next: b.next,
+    match operands(w) {
+        2 => {
+            if kind(w) == OR {
+                let a = event_mask(words, on, d);
+                let b = event_mask(words, a.next, d);
+                Masked {
+                    mask: a.mask | b.mask,
+                    next: b.next,
+                }
+            } else {
+                let a = condition_mask(words, on, d);
+                let b = condition_mask(words, a.next, d);
+                Masked {
+                    mask: a.mask,
+                    next: b.next,
+                }
             }
         }
-        _ => {
-            let a = condition_mask(words, on, d);
-            let b = condition_mask(words, a.next, d);
-            Masked {
-                mask: a.mask,
-                next: b.next,
-            }
-        }
+        _ => Masked { mask: 0, next: on },
     }
 }
 

@@ -43,36 +43,36 @@ module _ (ws : List ℕ) (vs : List Variable) (n at : ℕ) where
     unfolding readCondition reach wordAt
     condition-deep e z = let g : fits conditionKinds (word ws at) ≡ true = rw (← ew, ← ef) (not-false f e) in rw (z, g)
 
-    -- a word w of kind k is there that a condition may start with
-    module _ (k : ℕ) (e : not f ≡ false) (nz : n ≡ 0 → ⊥) (ek : k ≡ W.kind w) where
+    -- a word w is there that a condition may start with, and o operands follow it
+    module _ (o : ℕ) (e : not f ≡ false) (nz : n ≡ 0 → ⊥) (eo : o ≡ W.operands w) where
       arm : (r : Reached) → r ≡ reach (conditionBy vs (readCondition ws vs (n - 1)) w at) → r ≡ reach (readCondition ws vs n at)
       arm r er = er ∙ ap reach (rw ew (condition-unroll ws vs n at (rw (← ew, ← ef) (not-false f e)) nz))
 
-      pub condition-test : (b : Bool) → k ≡ 4 → b ≡ testOk vs w → b ≡ true → Next (at + 1) ≡ reach (readCondition ws vs n at)
-      unfolding conditionBy reach
-      condition-test b e4 eb t = arm _ (rw (← ek, e4, ← eb, t, add-one at))
+      module _ (k : ℕ) (n2 : o ≡ 2 → ⊥) (n1 : o ≡ 1 → ⊥) (ek : k ≡ W.kind w) where
+        pub condition-test : (b : Bool) → k ≡ 4 → b ≡ testOk vs w → b ≡ true → Next (at + 1) ≡ reach (readCondition ws vs n at)
+        unfolding conditionBy reach
+        condition-test b e4 eb t = arm _ (rw (← eo, ne_eqb o 2 n2, ne_eqb o 1 n1, ← ek, e4, ← eb, t, add-one at))
 
-      pub condition-range : (b : Bool) → k ≡ 4 → b ≡ testOk vs w → b ≡ false → Refused 3 at ≡ reach (readCondition ws vs n at)
-      unfolding conditionBy reach
-      condition-range b e4 eb t = arm _ (rw (← ek, e4, ← eb, t))
+        pub condition-range : (b : Bool) → k ≡ 4 → b ≡ testOk vs w → b ≡ false → Refused 3 at ≡ reach (readCondition ws vs n at)
+        unfolding conditionBy reach
+        condition-range b e4 eb t = arm _ (rw (← eo, ne_eqb o 2 n2, ne_eqb o 1 n1, ← ek, e4, ← eb, t))
 
-      pub condition-constant : k ≡ 9 → Next (at + 1) ≡ reach (readCondition ws vs n at)
-      unfolding conditionBy reach
-      condition-constant e9 = arm _ (rw (← ek, e9, add-one at))
+        pub condition-constant : (k ≡ 4 → ⊥) → Next (at + 1) ≡ reach (readCondition ws vs n at)
+        unfolding conditionBy reach
+        condition-constant n4 = arm _ (rw (← eo, ne_eqb o 2 n2, ne_eqb o 1 n1, ← ek, ne_eqb k 4 n4, add-one at))
 
-      pub condition-not : (a : Reached) → k ≡ 5 → a ≡ reach (readCondition ws vs (n - 1) (at + 1))
+      pub condition-not : (a : Reached) → o ≡ 1 → a ≡ reach (readCondition ws vs (n - 1) (at + 1))
           → a ≡ reach (readCondition ws vs n at)
       unfolding conditionBy
-      condition-not a e5 ea =
-          arm a (rw (← ek, e5) (ea ∙ rw (add-one at) (sym (made-reach (readCondition ws vs (n - 1) (suc at)) _))))
+      condition-not a e1 ea =
+          arm a (rw (← eo, e1) (ea ∙ rw (add-one at) (sym (made-reach (readCondition ws vs (n - 1) (suc at)) _))))
 
-      module _ (n4 : k ≡ 4 → ⊥) (n9 : k ≡ 9 → ⊥) (n5 : k ≡ 5 → ⊥) (a : Reached)
-          (ea : a ≡ reach (readCondition ws vs (n - 1) (at + 1))) where
+      module _ (e2 : o ≡ 2) (a : Reached) (ea : a ≡ reach (readCondition ws vs (n - 1) (at + 1))) where
         two : (r : Reached) → r ≡ thenAt a (λ j. reach (readCondition ws vs (n - 1) j)) → r ≡ reach (readCondition ws vs n at)
         unfolding conditionBy
         two r er =
             arm r
-            (rw (← ek, ne_eqb k 4 n4, ne_eqb k 9 n9, ne_eqb k 5 n5)
+            (rw (← eo, e2)
             (er ∙ rw (ea, add-one at) (sym (two-reach (readCondition ws vs (n - 1) (suc at)) (readCondition ws vs (n - 1)) _))))
 
         pub condition-both : (b : Reached) (j : ℕ) → a ≡ Next j → b ≡ reach (readCondition ws vs (n - 1) j)
@@ -121,25 +121,25 @@ module _ (ws : List ℕ) (vs : List Variable) (n at : ℕ) where
     unfolding readEvent reach wordAt
     event-deep e z = let g : fits eventKinds (word ws at) ≡ true = rw (← ew, ← ef) (not-false f e) in rw (z, g)
 
-    module _ (k : ℕ) (e : not f ≡ false) (nz : n ≡ 0 → ⊥) (ek : k ≡ W.kind w) where
+    module _ (o : ℕ) (e : not f ≡ false) (nz : n ≡ 0 → ⊥) (eo : o ≡ W.operands w) where
       event-arm : (r : Reached) → r ≡ reach (eventBy (readEvent ws vs (n - 1)) (readCondition ws vs (n - 1)) w at)
           → r ≡ reach (readEvent ws vs n at)
       event-arm r er = er ∙ ap reach (rw ew (event-unroll ws vs n at (rw (← ew, ← ef) (not-false f e)) nz))
 
-      pub event-never : (v : ℕ) → k ≡ 9 → v ≡ W.truth w → v ≡ 0 → Next (at + 1) ≡ reach (readEvent ws vs n at)
+      pub event-never : (v : ℕ) → (o ≡ 2 → ⊥) → v ≡ W.truth w → v ≡ 0 → Next (at + 1) ≡ reach (readEvent ws vs n at)
       unfolding eventBy reach
-      event-never v e9 ev z = event-arm _ (rw (← ek, e9, ← ev, z, add-one at))
+      event-never v n2 ev z = event-arm _ (rw (← eo, ne_eqb o 2 n2, ← ev, z, add-one at))
 
-      pub event-true : (v : ℕ) → k ≡ 9 → v ≡ W.truth w → (v ≡ 0 → ⊥) → Refused 3 at ≡ reach (readEvent ws vs n at)
+      pub event-true : (v : ℕ) → (o ≡ 2 → ⊥) → v ≡ W.truth w → (v ≡ 0 → ⊥) → Refused 3 at ≡ reach (readEvent ws vs n at)
       unfolding eventBy reach
-      event-true v e9 ev z = event-arm _ (rw (← ek, e9, ← ev, ne_eqb v 0 z))
+      event-true v n2 ev z = event-arm _ (rw (← eo, ne_eqb o 2 n2, ← ev, ne_eqb v 0 z))
 
-      module _ (e7 : k ≡ 7) (a : Reached) (ea : a ≡ reach (readEvent ws vs (n - 1) (at + 1))) where
+      module _ (k : ℕ) (e2 : o ≡ 2) (ek : k ≡ W.kind w) (e7 : k ≡ 7) (a : Reached) (ea : a ≡ reach (readEvent ws vs (n - 1) (at + 1))) where
         two-events : (r : Reached) → r ≡ thenAt a (λ j. reach (readEvent ws vs (n - 1) j)) → r ≡ reach (readEvent ws vs n at)
         unfolding eventBy
         two-events r er =
             event-arm r
-            (rw (← ek, e7) (er ∙ rw (ea, add-one at) (sym (two-reach (readEvent ws vs (n - 1) (suc at)) (readEvent ws vs (n - 1)) _))))
+            (rw (← eo, e2, ← ek, e7) (er ∙ rw (ea, add-one at) (sym (two-reach (readEvent ws vs (n - 1) (suc at)) (readEvent ws vs (n - 1)) _))))
 
         pub event-both : (b : Reached) (j : ℕ) → a ≡ Next j → b ≡ reach (readEvent ws vs (n - 1) j)
             → b ≡ reach (readEvent ws vs n at)
@@ -148,16 +148,16 @@ module _ (ws : List ℕ) (vs : List Variable) (n at : ℕ) where
         pub event-stop : (q i : ℕ) → a ≡ Refused q i → Refused q i ≡ reach (readEvent ws vs n at)
         event-stop q i an = two-events _ (then-stop a _ q i an)
 
-      module _ (s : ℕ) (b : Bool) (n9 : k ≡ 9 → ⊥) (n7 : k ≡ 7 → ⊥) (es : s ≡ W.sort w) (eb : b ≡ within 1 2 s) where
+      module _ (k s : ℕ) (b : Bool) (e2 : o ≡ 2) (ek : k ≡ W.kind w) (n7 : k ≡ 7 → ⊥) (es : s ≡ W.sort w) (eb : b ≡ within 1 2 s) where
         pub event-sort : b ≡ false → Refused 3 at ≡ reach (readEvent ws vs n at)
         unfolding eventBy reach
-        event-sort t = event-arm _ (rw (← ek, ne_eqb k 9 n9, ne_eqb k 7 n7, ← es, ← eb, t))
+        event-sort t = event-arm _ (rw (← eo, e2, ← ek, ne_eqb k 7 n7, ← es, ← eb, t))
 
         pub event-change : (r : Reached) → b ≡ true → r ≡ changeReach ws vs (n - 1) (at + 1) → r ≡ reach (readEvent ws vs n at)
         unfolding eventBy changeReach
         event-change r t er =
             event-arm r
-            (rw (← ek, ne_eqb k 9 n9, ne_eqb k 7 n7, ← es, ← eb, t)
+            (rw (← eo, e2, ← ek, ne_eqb k 7 n7, ← es, ← eb, t)
             (er ∙ rw (add-one at) (sym (two-reach (readCondition ws vs (n - 1) (suc at)) (readCondition ws vs (n - 1)) _))))
 
 pub ruleset events =

@@ -1,4 +1,5 @@
-// Conditions and events. `left` levels may still stand, this word's included; each operand has one less.
+// Conditions and events. `left` levels may still stand, this word's included; each operand has one less. The table of operand counts says how many
+// follow a word.
 // A place past the end is tested first, so that the place after it is a number. Each arm returns its answer at once: the value of a match
 // would be kept and copied at every word.
 ghost use Rattle.std.specs.Prelude.{◌≡◌};
@@ -8,7 +9,7 @@ ghost use Rattle.reader.specs.Formulas.{changeReach};
 
 use crate::tests::{fits_condition, fits_event, test_ok, within};
 use index::{Reached, word_at};
-use word::{BECOMES_FALSE, BECOMES_TRUE, CONSTANT, NOT, OR, TEST, kind, sort, truth};
+use word::{BECOMES_FALSE, BECOMES_TRUE, OR, TEST, kind, operands, sort, truth};
 
 pub fn read_condition(words: &[u32], places: &[usize], n: usize, at: usize, left: usize) -> Reached
     ensures { result ≡ reach (R.readCondition words.now (variablesTo words.now places.now n) left at) }
@@ -25,21 +26,23 @@ pub fn read_condition(words: &[u32], places: &[usize], n: usize, at: usize, left
     }
     let on = at + 1;
     let less = left - 1;
-    match kind(w) {
-        TEST => {
-            if test_ok(words, places, n, w) {
-                return Reached::Next(on);
-            }
-            return Reached::Refused(3, at);
-        }
-        CONSTANT => return Reached::Next(on),
-        NOT => return read_condition(words, places, n, on, less),
-        _ => {
+    match operands(w) {
+        2 => {
             let first = read_condition(words, places, n, on, less);
             match first {
                 Reached::Next(j) => return read_condition(words, places, n, j, less),
                 Reached::Refused(k, i) => return Reached::Refused(k, i),
             }
+        }
+        1 => return read_condition(words, places, n, on, less),
+        _ => {
+            if kind(w) == TEST {
+                if test_ok(words, places, n, w) {
+                    return Reached::Next(on);
+                }
+                return Reached::Refused(3, at);
+            }
+            return Reached::Next(on);
         }
     }
 }
@@ -70,23 +73,23 @@ pub fn read_event(words: &[u32], places: &[usize], n: usize, at: usize, left: us
     }
     let on = at + 1;
     let less = left - 1;
-    match kind(w) {
-        CONSTANT => {
-            if truth(w) == 0 {
-                return Reached::Next(on);
+    match operands(w) {
+        2 => {
+            if kind(w) == OR {
+                let first = read_event(words, places, n, on, less);
+                match first {
+                    Reached::Next(j) => return read_event(words, places, n, j, less),
+                    Reached::Refused(k, i) => return Reached::Refused(k, i),
+                }
+            }
+            if within(BECOMES_TRUE, BECOMES_FALSE, sort(w)) {
+                return read_change(words, places, n, on, less);
             }
             return Reached::Refused(3, at);
         }
-        OR => {
-            let first = read_event(words, places, n, on, less);
-            match first {
-                Reached::Next(j) => return read_event(words, places, n, j, less),
-                Reached::Refused(k, i) => return Reached::Refused(k, i),
-            }
-        }
         _ => {
-            if within(BECOMES_TRUE, BECOMES_FALSE, sort(w)) {
-                return read_change(words, places, n, on, less);
+            if truth(w) == 0 {
+                return Reached::Next(on);
             }
             return Reached::Refused(3, at);
         }

@@ -64,7 +64,7 @@ module _ (ws : List ℕ) where
   only-kind : (n i : ℕ) → mem (Kind i) (n ∷ []) ≡ true → Kind i ≡ n
   only-kind n i h = elim (mem-cons (Kind i) n [] h) [ inl p ↦ p | inr p ↦ absurd (mem-none (Kind i) p) ]
 
-  word-read : (kinds : List ℕ) (i : ℕ) → Gives (λ w. (w ≡ word ws i) × (mem (Kind i) kinds ≡ true)) (wordAt ws kinds i)
+  pub word-read : (kinds : List ℕ) (i : ℕ) → Gives (λ w. (w ≡ word ws i) × (mem (Kind i) kinds ≡ true)) (wordAt ws kinds i)
   unfolding wordAt fits
   word-read kinds i =
       after (expected (mem (Kind i) kinds && W.spare-clear (word ws i)) 2 i) λ _ e.
@@ -110,10 +110,10 @@ module _ (ws : List ℕ) where
     condition-spans (suc left) i =
         after (word-read conditionKinds i) λ w h.
         let s = one-word conditionKinds i refl h.1 in
-        branches (eqb (W.kind w) 4) (λ _. past (expect (testOk vs w) 3 i) (λ _. gives _ s))
-        (λ _. branches (eqb (W.kind w) 9) (λ _. gives _ s)
-        (λ _. branches (eqb (W.kind w) 5) (λ _. one-more (readCondition ws vs left (suc i)) _ s (condition-spans left (suc i)))
-        (λ _. two-more (readCondition ws vs left (suc i)) (readCondition ws vs left) _ s (condition-spans left (suc i)) (condition-spans left))))
+        branches (eqb (W.operands w) 2)
+        (λ _. two-more (readCondition ws vs left (suc i)) (readCondition ws vs left) _ s (condition-spans left (suc i)) (condition-spans left))
+        (λ _. branches (eqb (W.operands w) 1) (λ _. one-more (readCondition ws vs left (suc i)) _ s (condition-spans left (suc i)))
+        (λ _. branches (eqb (W.kind w) 4) (λ _. past (expect (testOk vs w) 3 i) (λ _. gives _ s)) (λ _. gives _ s)))
 
     event-spans : (left i : ℕ) → Gives (λ r. Spans i r.1) (readEvent ws vs left i)
     unfolding readEvent eventBy all-of mem
@@ -121,11 +121,12 @@ module _ (ws : List ℕ) where
     event-spans (suc left) i =
         after (word-read eventKinds i) λ w h.
         let s = one-word eventKinds i refl h.1 in
-        branches (eqb (W.kind w) 9) (λ _. past (expect (eqb (W.truth w) 0) 3 i) (λ _. gives _ s))
+        branches (eqb (W.operands w) 2)
         (λ _. branches (eqb (W.kind w) 7)
         (λ _. two-more (readEvent ws vs left (suc i)) (readEvent ws vs left) _ s (event-spans left (suc i)) (event-spans left))
         (λ _. past (expect (within 1 2 (W.sort w)) 3 i) λ _.
         two-more (readCondition ws vs left (suc i)) (readCondition ws vs left) _ s (condition-spans left (suc i)) (condition-spans left)))
+        (λ _. past (expect (eqb (W.truth w) 0) 3 i) (λ _. gives _ s))
 
     module _ {F : Type 0} (formula : ℕ → Read F) (spans : (i : ℕ) → Gives (λ r. Spans i r.1) (formula i)) (v m : ℕ) where
       row-spans : (left i : ℕ) → Gives (λ r. Spans i r.1 × (ltb 0 left ≡ true)) (readRow ws vs formula v m left i)

@@ -10,20 +10,20 @@ returns-then-not-fits_condition t c = search conditions
 pub returns-then-left-eq0 : goal.returns-then-left-eq0
 returns-then-left-eq0 t c = search conditions
 
-pub returns-then-test_ok : goal.returns-then-test_ok
-returns-then-test_ok t c = search conditions
-
-pub returns-in-4 : goal.returns-in-4
-returns-in-4 t c = search conditions
-
-pub returns-in-9 : goal.returns-in-9
-returns-in-9 t c = search conditions
-
-pub returns-in-5 : goal.returns-in-5
-returns-in-5 t c = search conditions
-
 pub returns-in-Next : goal.returns-in-Next
 returns-in-Next t c = search conditions
 
 pub returns-in-Refused : goal.returns-in-Refused
 returns-in-Refused t c = search conditions
+
+pub returns-in-1 : goal.returns-in-1
+returns-in-1 t c = search conditions
+
+pub returns-then-test_ok : goal.returns-then-test_ok
+returns-then-test_ok t c = search conditions
+
+pub returns-then-kind-eq-TEST : goal.returns-then-kind-eq-TEST
+returns-then-kind-eq-TEST t c = search conditions
+
+pub returns-in_default : goal.returns-in_default
+returns-in_default t c = search conditions

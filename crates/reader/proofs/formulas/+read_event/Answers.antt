@@ -10,12 +10,6 @@ returns-then-not-fits_event t c = search events
 pub returns-then-left-eq0 : goal.returns-then-left-eq0
 returns-then-left-eq0 t c = search events
 
-pub returns-then-truth-eq0 : goal.returns-then-truth-eq0
-returns-then-truth-eq0 t c = search events
-
-pub returns-in-9 : goal.returns-in-9
-returns-in-9 t c = search events
-
 pub returns-in-Next : goal.returns-in-Next
 returns-in-Next t c = search events
 
@@ -24,6 +18,12 @@ returns-in-Refused t c = search events
 
 pub returns-then-within : goal.returns-then-within
 returns-then-within t c = search events
+
+pub returns-in-2 : goal.returns-in-2
+returns-in-2 t c = search events
+
+pub returns-then-truth-eq0 : goal.returns-then-truth-eq0
+returns-then-truth-eq0 t c = search events
 
 pub returns-in_default : goal.returns-in_default
 returns-in_default t c = search events

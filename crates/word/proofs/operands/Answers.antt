@@ -1,0 +1,8 @@
+use Rattle.word.proofs.Mask.{kind-below, counted, few}
+use Rattle.word.proofs.operands.Goals as goal
+
+pub bounds-kind : goal.bounds-kind
+bounds-kind c = search kind-below
+
+pub returns : goal.returns
+returns c = record { value = search counted; upper_bound = few _ }
