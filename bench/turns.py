@@ -19,14 +19,15 @@ TURNS = 25
 LONG_TURNS = 3  # where a run takes more than ten seconds
 
 
-def times(commands, data):
-    """The seconds of each command, turn by turn. All must give the same answer."""
-    answer = subprocess.run(commands[0], input=data, capture_output=True, check=True).stdout.decode().removesuffix("\n")
-    found = []
-    while len(found) < (TURNS if not found or found[0][0] <= LONG else LONG_TURNS):
-        seconds = {name: timed(command, data, answer) for name, command in list(enumerate(commands))[:: -1 if len(found) % 2 else 1]}
-        found.append([seconds[name] for name in range(len(commands))])
-    return list(zip(*found))
+def times(before, after, data):
+    """The seconds of both, turn by turn. They must give the same answer."""
+    answer = subprocess.run(before, input=data, capture_output=True, check=True).stdout.decode().removesuffix("\n")
+    first, second = [], []
+    while len(first) < (LONG_TURNS if max(first, default=0) > LONG else TURNS):
+        turn = [(first, before), (second, after)]
+        for seconds, command in turn if len(first) % 2 == 0 else reversed(turn):
+            seconds.append(timed(command, data, answer))
+    return first, second
 
 
 def line(name, before, after):
@@ -42,13 +43,13 @@ def main():
     parser.add_argument("--seed", type=int, default=1)
     parser.add_argument("--program", default="target/bin/scrprobe")
     options = parser.parse_args()
-    commands = [options.before.split(), options.program.split()]
+    builds = options.before.split(), options.program.split()
     print(f"{'set':12} {'before, ms':>24} {'after, ms':>24}    after / before")
     for name in options.sets or [*SETS, *NAMED_ONLY]:
         words = {**SETS, **NAMED_ONLY}[name](random.Random(options.seed))[0]
-        line(name, *times(commands, call(CHECK, words)))
+        line(name, *times(*builds, call(CHECK, words)))
     words = SETS["full"](random.Random(options.seed))[0]
-    line("a run", *times(commands, call(RUN, words, [0, 0, EVENTS, *walk(words, options.seed)])))
+    line("a run", *times(*builds, call(RUN, words, [0, 0, EVENTS, *walk(words, options.seed)])))
 
 
 if __name__ == "__main__":

@@ -4,5 +4,5 @@ REQUESTS = ("2.2",)
 
 
 def version_line():
-    requests = f"with request{'s' * (len(REQUESTS) > 1)} {', '.join(REQUESTS)}" if REQUESTS else "without requests"
-    return f"scr of Kengatipo {VERSION}, for sets by document 01 {requests} of document 02"
+    landed = "request" if len(REQUESTS) == 1 else "requests"
+    return f"scr of Kengatipo {VERSION}, for sets by document 01 with {landed} {', '.join(REQUESTS)} of document 02"

@@ -1,4 +1,5 @@
--- Reading a condition or an event takes just the words that the table of operand counts says: its first word, and so many formulas after it.
+-- Reading a condition or an event takes just the words that the table of operand counts says: its first word, and so many formulas after it. The
+-- table alone tells where they end.
 use Rattle.std.specs.Prelude.{ℕ, zero, suc, ◌≡◌, refl, true, false, List, eqb}
 use Rattle.std.proofs.Common.{sym, subst}
 use native.Mathlib.Omega.{arith}
@@ -31,6 +32,10 @@ one-of-not (no-operator h) e = omega (arith, e)
 module _ (ws : List ℕ) where
   abbrev Operands : ℕ → ℕ
   Operands i = W.operands (word ws i)
+
+  pub one-end : {n i j k : ℕ} → Formulas ws n i j → Formulas ws n i k → j ≡ k
+  one-end none none = refl
+  one-end {k} (more {n} p q) (more r s) = one-end q (subst (λ (m : ℕ). Formulas ws n m k) (sym (one-end p r)) s)
 
   -- ---- a formula by the number of its operands
   with-none : {i : ℕ} → Operands i ≡ 0 → Formulas ws 1 i (suc i)
