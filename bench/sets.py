@@ -12,11 +12,11 @@ def implies(first, second):
 
 
 class Sheet:
-    """A set in the making. Variables have their numbers in the order in which they are added."""
+    """A set in the making. Variables have their numbers in the order in which they are added; their tables may be added in any order."""
 
     def __init__(self, random):
         self.random = random
-        self.sizes, self.variables, self.tables, self.assertions = [], [], [], []
+        self.sizes, self.variables, self.tables, self.assertions = [], [], {}, []
         self.sayings = []  # what each row of a condition table says: true in every state
 
     def add(self, kind, size):
@@ -25,7 +25,11 @@ class Sheet:
         return len(self.sizes) - 1
 
     def words(self):
-        return self.variables + self.tables + self.assertions
+        """Tables stand in rising number of their variables (document 02, 2.7)."""
+        return self.variables + sum((self.tables[name] for name in sorted(self.tables)), []) + self.assertions
+
+    def add_table(self, kind, name, rows, mode=NONE):
+        self.tables[name] = [table(kind, name, mode), *sum(rows, [])]
 
     def demand(self, condition):
         self.assertions += assertion(condition)
@@ -50,20 +54,16 @@ class Sheet:
 
     def condition_table(self, name, names, count):
         """As many rows over the variables named. Gives what the first row says: where it holds, the variable has its value."""
-        self.tables.append(table(CONDITION_TABLE, name))
         rows = [(self.any_value(name), leaf) for leaf in self.leaves(names, count)]
-        for value, leaf in rows:
-            self.tables += row(NONE, value, leaf)
+        self.add_table(CONDITION_TABLE, name, [row(NONE, value, leaf) for value, leaf in rows])
         sayings = [implies(leaf, equals(name, value)) for value, leaf in rows]
         self.sayings += sayings
         return sayings[0]
 
     def condition_table_by_mode(self, name, mode, names, counts):
         """As many rows of each mode. Gives what the first row says."""
-        self.tables.append(table(CONDITION_TABLE, name, mode))
         rows = [(m, self.any_value(name), leaf) for m, count in enumerate(counts) for leaf in self.leaves(names, count)]
-        for m, value, leaf in rows:
-            self.tables += row(m, value, leaf)
+        self.add_table(CONDITION_TABLE, name, [row(m, value, leaf) for m, value, leaf in rows], mode)
         sayings = [implies(both(equals(mode, m), leaf), equals(name, value)) for m, value, leaf in rows]
         self.sayings += sayings
         return sayings[0]
@@ -87,14 +87,13 @@ def mix(random):
     outputs = [sheet.add(CONTROLLED, 4), sheet.add(CONTROLLED, 2)]
     wide, narrow = inputs
     low, near = at_most(wide, 100), at_most(narrow, 20)
-    sheet.tables.append(table(MODE_TABLE, mode, mode))
-    for leaf in sheet.leaves([narrow, *outputs], 8):
-        sheet.tables += row(0, random.randrange(4), rises(low, leaf))
+    rows = [row(0, random.randrange(4), rises(low, leaf)) for leaf in sheet.leaves([narrow, *outputs], 8)]
     for m in range(1, 4):
-        sheet.tables += row(m, 0, falls(low))
+        rows.append(row(m, 0, falls(low)))
         for leaf in sheet.leaves([wide, *outputs], 4):
-            sheet.tables += row(m, random.randrange(4), rises(near, leaf))
-            sheet.tables += row(m, random.randrange(4), falls(near, leaf))
+            rows.append(row(m, random.randrange(4), rises(near, leaf)))
+            rows.append(row(m, random.randrange(4), falls(near, leaf)))
+    sheet.add_table(MODE_TABLE, mode, rows, mode)
     sheet.demand(either(equals(mode, 0), low))
     sheet.demand(sheet.condition_table_by_mode(outputs[0], mode, inputs, [8] * 4))
     sheet.demand(sheet.condition_table(outputs[1], [*inputs, mode, outputs[0]], 16))
@@ -159,22 +158,20 @@ class Shift:
 
     def mode_table(self):
         """Six rows a mode: the guard falls, or one of three other inputs rises under one of two conditions."""
-        self.sheet.tables.append(table(MODE_TABLE, self.mode, self.mode))
+        rows = []
         for m in range(4):
-            rows = [row(m, 0, falls(self.guards[m]))] if m else []
+            of_mode = [row(m, 0, falls(self.guards[m]))] if m else []
             for name in self.random.sample(self.inputs[4:10], 3):
                 for leaf in self.sheet.leaves(self.any_name(), 2):
                     target = self.random.choice([1, 2, 3])
-                    rows.append(row(m, target, rises(equals(name, 1), both(self.guards[target], leaf))))
-            self.sheet.tables += sum(rows[:6], [])
+                    of_mode.append(row(m, target, rises(equals(name, 1), both(self.guards[target], leaf))))
+            rows += of_mode[:6]
+        self.sheet.add_table(MODE_TABLE, self.mode, rows, self.mode)
 
     def event_table(self, name, reason, resets):
         """Ten rows that set or clear the variable where the reason becomes true, and those given."""
-        self.sheet.tables.append(table(EVENT_TABLE, name))
-        for leaf in self.sheet.leaves(self.any_name(), 10):
-            self.sheet.tables += row(NONE, self.random.choice([0, 1]), rises(reason, leaf))
-        for value, event in enumerate(resets):
-            self.sheet.tables += row(NONE, value, event)
+        rows = [row(NONE, self.random.choice([0, 1]), rises(reason, leaf)) for leaf in self.sheet.leaves(self.any_name(), 10)]
+        self.sheet.add_table(EVENT_TABLE, name, rows + [row(NONE, value, event) for value, event in enumerate(resets)])
 
     def latch_table(self, late):
         """The latch falls with its input; `late` it rises instead in one step, from the last state in which both terms are 0."""
@@ -228,18 +225,19 @@ def grown(random, inputs, size, tables):
     names = [sheet.add(MONITORED, size) for _ in range(inputs)]
     mode = sheet.add(MODE_CLASS, 4)
     tests = [equals(name, 1) if size == 2 else at_most(name, size // 2 - 1) for name in names]
-    sheet.tables.append(table(MODE_TABLE, mode, mode))
+    rows = []
     for place in range(tables):
         m, turn = place % 4, place // 4
         which = (turn + (m != 1)) % inputs
         change = falls if (turn // inputs + (which == 0)) % 2 else rises
         leaf = sheet.leaves(names, 2)[0]
         if m == 1 and turn == 0:
-            sheet.tables += row(1, 0, falls(tests[0]))
+            rows.append(row(1, 0, falls(tests[0])))
         elif m == 0 and which != 0:
-            sheet.tables += row(0, 1, change(tests[which], both(tests[0], leaf)))
+            rows.append(row(0, 1, change(tests[which], both(tests[0], leaf))))
         else:
-            sheet.tables += row(m, [2, 2, 3, 0][m], change(tests[which], leaf))
+            rows.append(row(m, [2, 2, 3, 0][m], change(tests[which], leaf)))
+    sheet.add_table(MODE_TABLE, mode, rows, mode)
     sheet.demand(implies(equals(mode, 1), tests[0]))
     outputs = []
     for _ in range(tables):
@@ -264,10 +262,11 @@ def hard_events(random):
     """Made to cost much in every step: inputs of 256 and 128 values, and an event table of rows that never hold but whose changes test nearly every value."""
     sheet = Sheet(random)
     first, second, term = sheet.add(MONITORED, 256), sheet.add(MONITORED, 128), sheet.add(TERM, 2)
-    sheet.tables.append(table(EVENT_TABLE, term))
+    rows = []
     for j in range(32):
         tests = [equals(first, (8 * j + k) % 256) if k % 2 else equals(second, (12 * j + k) % 128) for k in range(61)]
-        sheet.tables += row(NONE, 1, rises(some([*tests, no(tests[0])])))
+        rows.append(row(NONE, 1, rises(some([*tests, no(tests[0])]))))
+    sheet.add_table(EVENT_TABLE, term, rows)
     return sheet.words(), 25034752, "PASS 65536 25034752 0"
 
 

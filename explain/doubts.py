@@ -39,7 +39,9 @@ class Doubts:
 
 
 def reads(words):
-    return bool(words) and Reading(words).fault is None
+    """Whether the words have the form of a set. Tables in another order (refusal 21) do not tell of words that were lost."""
+    fault = Reading(words).fault
+    return bool(words) and (fault is None or fault.number == 21)
 
 
 def turned_set(source):

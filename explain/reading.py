@@ -48,7 +48,7 @@ class Assertion:
 
 @dataclass(eq=False)
 class Fault(Exception):
-    """Refusals 2 to 5: the index of the word and all that is wrong with it."""
+    """Refusals 2 to 5 and 21: the index of the word and all that is wrong with it."""
 
     number: int
     index: int
@@ -123,6 +123,7 @@ class Reading:
         })
         mode_class = None if mode_class == w.ANY else mode_class
         refuse(5, index, self.misfits(sort, variable, mode_class))
+        refuse(21, index, self.out_of_order(variable))
         table = Table(index, sort, variable, mode_class)
         self.tables.append(table)
         while not table.rows or self.kind_here() == w.ROW:
@@ -137,6 +138,13 @@ class Reading:
             f"type {sort} doesn't fit a {w.CALLED[kind]}": (sort == w.MODE_TABLE) != (kind == w.MODE_CLASS),
             f"variable {mode_class} is no mode class": reads_other,
             f"a table of type 1 must read its own variable {variable}": sort == w.MODE_TABLE and mode_class != variable,
+        }
+
+    def out_of_order(self, variable):
+        """Against the table before, if there is one; its variable is another, since this is asked after 5."""
+        return {
+            f"variable {variable} is lower than variable {before.variable} of the table before": variable < before.variable
+            for before in self.tables[-1:]
         }
 
     def read_row(self, table):

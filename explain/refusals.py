@@ -1,4 +1,4 @@
-"""Each refusal in plain words: its number, document 01's cause, and the witness that it carries."""
+"""Each refusal in plain words: its number, its cause as document 01 or a request of document 02 has it, and the witness that it carries."""
 import math
 
 from explain import words as w
@@ -25,6 +25,7 @@ CAUSES = {
     15: "no such state",
     16: "not an enabled event word",
     17: "over 4,096 events, or fewer lent elements than needed",
+    21: "table word whose variable is lower than that of the table before",
 }
 
 # Why a witness may be a state that nobody has seen.
@@ -40,7 +41,7 @@ class Explainer(Witness):
         self.reached = done[-1][3] if done else start
 
     def refusal(self, number, carried):
-        lines = [f"{number}: {CAUSES.get(number, 'no refusal of document 01')}."]
+        lines = [f"{number}: {CAUSES.get(number, 'no refusal that is known here')}."]
         try:
             return lines + getattr(self, f"refusal_{number}")(*carried)
         except (Unfounded, AttributeError, IndexError, TypeError, KeyError):
@@ -51,7 +52,7 @@ class Explainer(Witness):
         """Said of a set that check refuses."""
         return [f"The events handed in, {len(self.events):,}, are not run: the set is refused."] if self.events else []
 
-    # Refusals 1 to 5: reading the words
+    # Refusals 1 to 5 and 21: reading the words
 
     def refusal_1(self, length):
         found(length == len(self.set))
@@ -63,8 +64,19 @@ class Explainer(Witness):
     def faulty_word(self, number, index):
         fault = self.reading.fault
         found(fault is not None and (fault.number, fault.index) == (number, index))
-        reasons = [f"It is refused {self.where()}: {'; '.join(fault.reasons)}."]
-        return ([self.word_line(index)] if index < len(self.set) else [self.end_line()]) + reasons
+        word = self.word_line(index) if index < len(self.set) else self.end_line()
+        belongs = self.belongs(index) if number == 21 else []
+        return [word, f"It is refused {self.where()}: {'; '.join(fault.reasons)}.", *belongs]
+
+    def belongs(self, index):
+        """The table before a table word that comes too late, and where it belongs."""
+        tables, variable = self.reading.tables, w.field(self.set[index], 23, 16)
+        higher = next(table for table in tables if table.variable > variable)
+        return [
+            f"The table before: {self.word_line(tables[-1].index)}.",
+            f"Tables are to stand in rising number of their variables. Move the table of {self.say.variable(variable)}, its rows with it, to before "
+            f"the table of {self.say.variable(higher.variable)} (word {higher.index}, {self.place(higher.index)}).",
+        ]
 
     def end_line(self):
         """The end of the set: the end of the words, or the first word of kind 11."""
@@ -96,6 +108,9 @@ class Explainer(Witness):
 
     def refusal_5(self, index):
         return self.faulty_word(5, index)
+
+    def refusal_21(self, index):
+        return self.faulty_word(21, index)
 
     # Refusals 6 to 9: after the words
 

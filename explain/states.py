@@ -59,7 +59,7 @@ def mode_is(row, table, values):
 
 
 class States:
-    """The states of a set that clears refusals 1 to 9."""
+    """The states of a set that clears refusals 1 to 9 and 21."""
 
     def __init__(self, reading):
         self.reading = reading

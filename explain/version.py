@@ -1,6 +1,6 @@
 """What --version prints. A change request of document 02 that lands adds its number here."""
 VERSION = "1.0"
-REQUESTS = ("2.2",)
+REQUESTS = ("2.2", "2.7")
 
 
 def version_line():

@@ -30,6 +30,7 @@
  *     14  an assertion that a step breaks (check only)
  *     15  no such state (step only)
  *     16  not an enabled event word (step only)
+ *     21  a table that comes after one of a higher variable
  */
 #ifndef SCR_H
 #define SCR_H

@@ -1,7 +1,17 @@
 """Text that was taken for bytes, bytes in another order, and words of few digits: the words are not what their writer meant."""
+import os
 import unittest
 
-from common import ScrCase, scr, text_of_set_a, words_of_set_a
+from common import ROOT, ScrCase, scr, text_of_set_a, words_of_set_a
+from explain.source import from_text
+
+with open(os.path.join(ROOT, "examples", "set-a-other-order.hex"), encoding="utf-8") as opened:
+    OTHER_ORDER = from_text(opened.read()).set_bytes()
+
+
+def turned(words):
+    """The bytes of each word in the opposite order."""
+    return b"".join(words[at : at + 4][::-1] for at in range(0, len(words), 4))
 
 
 class TakenForBytes(ScrCase):
@@ -45,14 +55,16 @@ class TakenForBytes(ScrCase):
     def test_bytes_in_the_opposite_order(self):
         for count in (29, 32):
             words = words_of_set_a(count)
-            turned = b"".join(words[at : at + 4][::-1] for at in range(0, len(words), 4))
-            self.turned_around(words, turned)
+            self.turned_around(words, turned(words))
 
-    def turned_around(self, words, turned):
+    def test_tables_in_another_order_in_bytes_in_the_opposite_order(self):
+        self.turned_around(OTHER_ORDER, turned(OTHER_ORDER))
+
+    def turned_around(self, words, other):
         said = "With the bytes of each word in the opposite order the words read as a set: the lowest byte of a word comes first."
-        self.told(turned, "TAKEN FOR BYTES", said)
+        self.told(other, "TAKEN FOR BYTES", said)
         # Said of bytes that were called bytes, too.
-        self.assertIn(said, " ".join(scr("--binary", "-", given=turned)[1].split()))
+        self.assertIn(said, " ".join(scr("--binary", "-", given=other)[1].split()))
         # And of such words in hexadecimal.
         explanation = " ".join(scr("-", given=words.hex(" ", 4).encode())[1].split())
         self.assertIn(said, explanation)
@@ -80,7 +92,9 @@ class TakenForBytes(ScrCase):
         for arguments in (["-"], ["--binary", "-"]):
             self.assertNotIn("TAKEN", self.printed(0, ["PASS 12 24 1"], *arguments, given=words_of_set_a(29)))
         # A refusal that is not about the words' form says nothing of bytes either.
-        self.assertNotIn("TAKEN", scr("-", given=words_of_set_a(17))[1])
+        for given, refusal in {words_of_set_a(17): "REFUSE 6 3", OTHER_ORDER: "REFUSE 21 11"}.items():
+            self.assertNotIn("TAKEN", self.printed(1, [refusal], "-", given=given))
+            self.assertEqual(scr("--bytes", "-", given=given)[0], 0)
 
     def test_told_on_standard_error_where_nothing_is_explained(self):
         status, output, errors = scr("--quiet", "-", given=b"11002000 # \xfc")

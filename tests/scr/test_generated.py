@@ -10,6 +10,7 @@ import unittest
 from common import ORACLE
 from explain.command import explanation
 from explain.program import Verdict
+from explain.refusals import CAUSES
 from explain.source import from_bytes
 from explain.witness import Witness
 
@@ -39,7 +40,7 @@ class Generated(unittest.TestCase):
                     self.compare_steps(source, verdict)
                 refusals[verdict.refused[0] if verdict.refused else "none"] += 1
         # 15 can't come: a run starts in the initial state.
-        self.assertEqual([number for number in range(1, 18) if not refusals[number]], [15], refusals)
+        self.assertEqual([number for number in CAUSES if not refusals[number]], [15], refusals)
 
 
 if __name__ == "__main__":

@@ -21,16 +21,27 @@ SPINDLE_ROWS = [row(CUT, 1, TRUE), row(IDLE, 0, TRUE), row(HOLD, 0, TRUE)]
 KEPT = assertion(either(no(equals(SPINDLE, 1)), equals(GUARD, 1)))
 
 
+def mode_table(rows=None):
+    return [table(MODE_TABLE, MODE, MODE), *sum(rows or MODE_ROWS, [])]
+
+
+def spindle_table(rows=None):
+    return [table(CONDITION_TABLE, SPINDLE, MODE), *sum(rows or SPINDLE_ROWS, [])]
+
+
 def set_a(variables=None, modes=None, spindle=None, assertions=None):
     """Set A with another part."""
-    tables = [table(MODE_TABLE, MODE, MODE), *sum(modes or MODE_ROWS, [])]
-    tables += [table(CONDITION_TABLE, SPINDLE, MODE), *sum(spindle or SPINDLE_ROWS, [])]
-    return (variables or VARIABLES) + tables + (KEPT if assertions is None else assertions)
+    return (variables or VARIABLES) + mode_table(modes) + spindle_table(spindle) + (KEPT if assertions is None else assertions)
 
 
 def one_term(rows, sort=CONDITION_TABLE, size=2, initial=0):
     """An input of three values and a term with these rows."""
     return [variable(MONITORED, 3), variable(TERM, size, initial), table(sort, 1), *sum(rows, [])]
+
+
+def constant_terms(count, tabled):
+    """So many terms, and the tables of some in this order, each of a row of two words."""
+    return [variable(TERM, 2)] * count + sum(([table(CONDITION_TABLE, term), *row(NONE, 0, TRUE)] for term in tabled), [])
 
 
 class Refusals(unittest.TestCase):
@@ -170,6 +181,15 @@ class Refusals(unittest.TestCase):
     def test_5_class_of_another(self):
         self.check(VARIABLES + [table(MODE_TABLE, MODE)], "REFUSE 5 4", "a table of type 1 must read its own variable 2")
 
+    def test_5_of_a_lower_variable(self):
+        # 21 is tested after 5.
+        for defined, reason in {
+            table(CONDITION_TABLE, GUARD): "variable 0 is monitored",
+            table(MODE_TABLE, MODE, MODE): "variable 2 has a table already",
+        }.items():
+            self.check(set_a(assertions=[defined]), "REFUSE 5 24", f"after row 2 of the table of variable 3 Spindle: {reason}.")
+        self.check(VARIABLES + spindle_table() + [table(EVENT_TABLE, MODE, MODE)], "REFUSE 5 11", "type 2 doesn't fit a mode class.")
+
     def test_6(self):
         self.check(VARIABLES, "REFUSE 6 2", "word 2 (line 5): 12003000, variable:", "Variable 2 Mode, a mode class, has no table.")
 
@@ -304,8 +324,37 @@ class Refusals(unittest.TestCase):
         words = set_a() + [0xB0000001, 0xB0000000] * 2049
         self.check(words, "REFUSE 17 4097", "There are 4,098 event words; a run takes 4,096.", before=["PASS 12 24 1"])
 
+    def test_21(self):
+        said = (
+            "word 11 (line 5): 21020200, table: type 1 mode, of variable 2 Mode, reads the modes of variable 2 Mode It is refused after row 2 of "
+            "the table of variable 3 Spindle: variable 2 is lower than variable 3 of the table before.",
+            "The table before: word 4 (line 5): 23030200, table: type 3 condition, of variable 3 Spindle, reads the modes of variable 2 Mode.",
+            "Tables are to stand in rising number of their variables. Move the table of variable 2 Mode, its rows with it, to before the table of "
+            "variable 3 Spindle (word 4, line 5).",
+        )
+        self.check(VARIABLES + spindle_table() + mode_table() + KEPT, "REFUSE 21 11", *said)
+
+    def test_21_before_the_rows_are_read(self):
+        # Neither their end nor what is wrong with them counts.
+        for rows in ([], row(0, 5, []), row(NONE, 0, TRUE), [table(CONDITION_TABLE, 0)]):
+            words = constant_terms(3, [2]) + [table(CONDITION_TABLE, 1), *rows]
+            self.check(words, "REFUSE 21 6", "word 6 (line 5): 2301FF00, table:", "The table before: word 3 (line 5): 2302FF00, table:")
+
+    def test_21_at_the_third_table(self):
+        said = "The table before: word 7 (line 5): 2303FF00, table:", "to before the table of variable 3 Spindle (word 7, line 5)."
+        self.check(constant_terms(4, [1, 3, 2]), "REFUSE 21 10", *said)
+
+    def test_21_belongs_before_the_first_table_of_a_higher_variable(self):
+        said = "The table before: word 10 (line 5): 2303FF00, table:", "to before the table of variable 2 Mode (word 7, line 5)."
+        self.check(constant_terms(4, [0, 2, 3, 1]), "REFUSE 21 13", *said)
+
+    def test_2_and_3_come_before_21(self):
+        words = VARIABLES + spindle_table()
+        self.check(words + [table(MODE_TABLE, MODE, MODE) | 1], "REFUSE 2 11", "spare bits are not zero: 00000001.")
+        self.check(words + [table(4, MODE, MODE)], "REFUSE 3 11", "type 4 is none of 1 to 3.")
+
     def test_a_witness_that_is_none_is_not_explained(self):
-        for number, carried in {2: [5], 6: [1], 9: [3, 1], 10: [0, 1, 3], 12: [10, 0, 1, 2, 2, 3], 14: [0, 0, 1, 1], 16: [0], 40: [1]}.items():
+        for number, carried in {2: [5], 6: [1], 9: [3, 1], 10: [0, 1, 3], 12: [10, 0, 1, 2, 2, 3], 14: [0, 0, 1, 1], 16: [0], 21: [17], 40: [1]}.items():
             told = Explainer(from_text(hexadecimal(set_a()))).refusal(number, carried)
             self.assertIn("does not find its witness", told[-1])
 

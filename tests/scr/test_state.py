@@ -77,7 +77,9 @@ class OneState(ScrCase):
         self.assertIn("state 1; ", self.shown(1, ["REFUSE 10 0 8 3"], gap, "--state", "0"))
 
     def test_a_set_without_states(self):
-        self.assertNotIn("State 0", self.shown(1, ["REFUSE 6 1"], "-", "--state", "0", given=b"11002000 12002000"))
+        out_of_order = b"13002000 13002000 2301FF00 3FF00000 90000001 2300FF00 3FF00000 90000001"
+        for given, refusal in {b"11002000 12002000": "REFUSE 6 1", out_of_order: "REFUSE 21 5"}.items():
+            self.assertNotIn("State 0", self.shown(1, [refusal], "-", "--state", "0", given=given))
 
     def test_a_set_without_inputs(self):
         told = self.shown(0, ["PASS 1 0 1"], "-", "--state", "0", given=b"A1000000 90000001")

@@ -72,9 +72,6 @@ pub record MeaningCases : Type 0 where
   -- ---- the order
   -- 0 reads 1, so 1 is taken first, then 0 before 2: the first gap is that of 0
   pub lowest-first : checkOf (terms 0x40100001 0x90000001 0x90000000) ≡ refuse 10 (0 ∷ 0 ∷ 0 ∷ [])
-  -- "Tables may come in any order."
-  pub tables-in-any-order :
-      startOf (0x13002000 ∷ 0x13002000 ∷ 0x2301FF00 ∷ 0x3FF00000 ∷ 0x90000001 ∷ 0x2300FF00 ∷ 0x3FF00000 ∷ 0x90000001 ∷ []) ≡ ok 0
   -- ---- states and counts
   -- a mode class starts at its initial value; the input before it weighs less
   pub initial-mode : startOf (0x12003002 ∷ 0x21000000 ∷ 0x3FF00000 ∷ 0x90000000 ∷ []) ≡ ok 2
@@ -108,7 +105,6 @@ meaning-cases = record {
   class-of-conditions-read = refl;
   cycle-of-three = refl;
   lowest-first = refl;
-  tables-in-any-order = refl;
   initial-mode = refl;
   weights = refl;
   steps-counted = refl;

@@ -1,5 +1,5 @@
 -- Which refusal a word gets that is wrong in two ways, every limit from both sides, and which words are a table, by computation.
--- Demand 1 takes refusals 2 to 5 from the readers themselves, so these cases are what tells them from readers that try a word in
+-- Demand 1 takes the refusals of a word from the readers themselves, so these cases are what tells them from readers that try a word in
 -- another order.
 use Rattle.std.specs.Prelude.{ℕ, zero, suc, ◌≡◌, refl, List, [], ◌∷◌, ◌++◌, replicate}
 use Rattle.meaning.specs.Answers.{ok, refuse}

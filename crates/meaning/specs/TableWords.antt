@@ -8,11 +8,11 @@ use Rattle.meaning.specs.Lookup.{definedBy}
 use Rattle.meaning.specs.Reading.{word, readVariables, readTable}
 
 module _ (ws : List ℕ) where
-  -- Tables read one after another: the first at place i, each other where reading the one before it ended, and the last ended at k. (false: no
-  -- table of its variable was read before.)
+  -- Tables read one after another: the first at place i, each other where reading the one before it ended, and the last ended at k. (false and
+  -- false: no table of its variable was read before, and the table before is of no higher one.)
   pub data Follow (vs : List Variable) : ℕ → List Table → ℕ → Type 0 where
     nothing : {i : ℕ} → Follow vs i [] i
-    more : {i j k : ℕ} {t : Table} {ts : List Table} → readTable ws vs i false ≡ fine (t, j) → Follow vs j ts k → Follow vs i (t ∷ ts) k
+    more : {i j k : ℕ} {t : Table} {ts : List Table} → readTable ws vs i false false ≡ fine (t, j) → Follow vs j ts k → Follow vs i (t ∷ ts) k
 
   -- Reading the words as z took those from a up to b for the table of v: its variables' words end before `first`, and from there on table
   -- follows table up to `last`.
@@ -25,7 +25,7 @@ module _ (ws : List ℕ) where
     pub all : z.tables ≡ before ++ (table ∷ after)
     pub its : definedBy table ≡ v
     pub sooner : Follow z.variables first before a
-    pub here : readTable ws z.variables a false ≡ fine (table, b)
+    pub here : readTable ws z.variables a false false ≡ fine (table, b)
     pub last : ℕ
     pub later : Follow z.variables b after last
 

@@ -20,7 +20,8 @@ use Rattle.index.specs.Places.{reach, thenAt}
 use Rattle.reader.specs.Formulas.{faultOf}
 use Rattle.reader.proofs.TestLaws.{kind-past}
 use Rattle.reader.proofs.Answers.{made-reach, two-reach, then-next, then-stop}
-use Rattle.reader.proofs.Faults.{tested, tested-refused, tested-passed, word-then}
+use Rattle.theory.specs.Readers.{word-then}
+use Rattle.reader.proofs.Faults.{tested, tested-refused, tested-passed}
 
 -- ---- an assertion
 module _ (ws : List ℕ) (vs : List Variable) (l at : ℕ) where

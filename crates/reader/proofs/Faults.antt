@@ -1,12 +1,11 @@
 -- Laws of fault: the tests of one word, in the meaning's order.
 use mathlib.Core.Path.{◌≡◌, refl, sym, ◌∙◌}
 use mathlib.Core.Bool.{Bool, true, false, not}
-use mathlib.Core.List.{List}
 use Prim.Native.Nat.{ℕ}
 use native.Mathlib.Omega.{arith}
 use borrow.Author.Tests.{not-true, not-false}
-use Rattle.meaning.specs.Answers.{fine, ◌>>>◌, expect}
-use Rattle.meaning.specs.Reading.{Read, word, fits, wordAt}
+use Rattle.meaning.specs.Answers.{◌>>>◌, expect}
+use Rattle.meaning.specs.Reading.{Read}
 use Rattle.index.specs.declared.Reached.TheVariants.{Refused}
 use Rattle.index.specs.Places.{reach}
 use Rattle.reader.specs.Formulas.{faultOf}
@@ -55,13 +54,3 @@ tested-passed true false c d k i m e z = absurd (let x : ◌≡◌ {A = ℕ} 4 0
 tested-passed true true false d k i m e z = absurd (let x : ◌≡◌ {A = ℕ} 3 0 = sym e ∙ z in omega arith)
 tested-passed true true true false k i m e z = absurd (let x : ◌≡◌ {A = ℕ} 5 0 = sym e ∙ z in omega arith)
 tested-passed true true true true k i m e z = refl
-
--- a word that fits is the word that is there
-pub word-then : {A : Type 0} (ws kinds : List ℕ) (i : ℕ) (f : ℕ → Read A)
-    → (wordAt ws kinds i >>> f) ≡ (expect (fits kinds (word ws i)) 2 i >>> λ _. f (word ws i))
-unfolding wordAt
-word-then {A} ws kinds i f = go (fits kinds (word ws i))
-  where
-    go : (b : Bool) → ◌≡◌ {A = Read A} (expect b 2 i >>> (λ _. fine (word ws i)) >>> f) (expect b 2 i >>> λ _. f (word ws i))
-    go true = refl
-    go false = refl

@@ -15,16 +15,17 @@ use Rattle.word.specs.Limits as Max
 use Rattle.meaning.specs.Answers.{fine, stop, ◌>>>◌, expect, if◌give◌else◌}
 use Rattle.meaning.specs.Syntax.{Event, Variable, Table, Body}
 use Rattle.meaning.specs.Lookup.{definedBy, tableOf, isSome, hasTable}
-use Rattle.meaning.specs.Reading.{Read, word, fits, tableOk, tableFits, bodyOf, eventTableBy, wordAt, readBody, readTable, readTables}
+use Rattle.meaning.specs.Reading.{Read, word, fits, tableOk, tableFits, bodyOf, eventTableBy, wordAt, readBody, readTable, nextTable, readTables}
 use Rattle.theory.specs.Tests.{and-true}
+use Rattle.theory.specs.Readers.{word-then}
+use Rattle.theory.specs.TablesRead.{defined-below}
 use Rattle.theory.specs.Found.{fine-same, then-fine, expect-fine}
 use Rattle.index.specs.declared.Reached.TheVariants.{Next, Refused}
 use Rattle.index.specs.Places.{told, place-count}
 use Rattle.index.specs.Indexed.{Placed, absent, there}
-use Rattle.reader.specs.Tables.{isPlaced, readPlaces}
+use Rattle.reader.specs.Tables.{isPlaced, nextPlace, readPlaces}
 use Rattle.reader.specs.Variables.{NoTables}
-use Rattle.reader.proofs.Faults.{word-then}
-use Rattle.reader.proofs.TableLaws.{conditionRows, eventRows, conditionTable, eventTable, defined-below}
+use Rattle.reader.proofs.TableLaws.{conditionRows, eventRows, conditionTable, eventTable}
 
 -- each variable's entry against its table
 abbrev pub Places : List ℕ → List Variable → List Table → List ℕ → Type 0
@@ -102,31 +103,37 @@ module _ (ws : List ℕ) (vs : List Variable) where
     pub below : W.defined (word ws i) < length vs
     pub body-read : readBody ws vs (word ws i) (suc i) ≡ fine (t, j)
 
-  table-read : (i j : ℕ) (taken : Bool) (t : Table) → readTable ws vs i taken ≡ fine (t, j) → TableRead i j taken t
+  table-read : (i j : ℕ) (taken lower : Bool) (t : Table) → readTable ws vs i taken lower ≡ fine (t, j) → TableRead i j taken t
   unfolding readTable
-  table-read i j taken t e =
+  table-read i j taken lower t e =
       let w = word ws i in
       let a = then-fine (wordAt ws (2 ∷ []) i) _ (t, j) e in
       let ew : w ≡ a.0 = word-read ws (2 ∷ []) i a.0 a.1 in
       let e' = rw (← ew) at a.2 in
       let b = then-fine (expect (tableOk vs w) 3 i) _ (t, j) e' in
       let c = then-fine (expect (tableFits vs w && not taken) 5 i) _ (t, j) b.2 in
+      let d = then-fine (expect (not lower) 21 i) _ (t, j) c.2 in
       record {
         free = not-true taken (and-true (tableFits vs w) (not taken) (expect-fine _ 5 i _ c.1)).1;
         below = defined-below vs w (expect-fine _ 3 i _ b.1);
-        body-read = c.2;
+        body-read = d.2;
       }
 
+  next-read : (i j : ℕ) (ps : List ℕ) (before : ℕ) (t : Table) → nextPlace ws vs i ps before ≡ fine (t, j)
+      → TableRead i j (isPlaced ps (W.defined (word ws i))) t
+  unfolding nextPlace
+  next-read i j ps before t e = table-read i j _ _ t e
+
   -- whether its variable is tabled already is asked only of a variable that is there
-  table-asks : (i : ℕ) (a b : Bool) → (W.defined (word ws i) < length vs → a ≡ b) → readTable ws vs i a ≡ readTable ws vs i b
+  table-asks : (i : ℕ) (a b lower : Bool) → (W.defined (word ws i) < length vs → a ≡ b) → readTable ws vs i a lower ≡ readTable ws vs i b lower
   unfolding readTable
-  table-asks i a b h =
+  table-asks i a b lower h =
       word-then ws (2 ∷ []) i _ ∙ go (fits (2 ∷ []) (word ws i)) (tableOk vs (word ws i)) refl ∙ sym (word-then ws (2 ∷ []) i _)
     where
       asked : Bool → Bool → Bool → Read Table
       asked f t taken =
           expect f 2 i >>> λ _. expect t 3 i >>> λ _. expect (tableFits vs (word ws i) && not taken) 5 i >>> λ _.
-          readBody ws vs (word ws i) (suc i)
+          expect (not lower) 21 i >>> λ _. readBody ws vs (word ws i) (suc i)
 
       go : (f t : Bool) → tableOk vs (word ws i) ≡ t → asked f t a ≡ asked f t b
       go false t e = refl
@@ -162,31 +169,35 @@ Agree ws vs (fine a) (stop l j) = ⊥
 Agree ws vs (stop k i) (fine b) = ⊥
 
 module _ (ws : List ℕ) (vs : List Variable) (few : length vs ≤ Max.max-variables) where
-  agree : (l i : ℕ) (ts : List Table) (ps : List ℕ) → length ps ≡ place-count → Places ws vs ts ps
-      → Agree ws vs (readTables ws vs l i ts) (readPlaces ws vs l i ps)
+  same-next : (i : ℕ) (ts : List Table) (ps : List ℕ) (before : ℕ) → Places ws vs ts ps → nextTable ws vs i ts before ≡ nextPlace ws vs i ps before
+  unfolding nextTable nextPlace
+  same-next i ts ps before ix = table-asks ws vs i _ _ _ (λ l. places-have ws vs ts ps ix (W.defined (word ws i)) (omega arith))
+
+  agree : (l i : ℕ) (ts : List Table) (ps : List ℕ) (before : ℕ) → length ps ≡ place-count → Places ws vs ts ps
+      → Agree ws vs (readTables ws vs l i ts before) (readPlaces ws vs l i ps before)
   unfolding readTables readPlaces
-  agree zero i ts ps len ix =
-      rw (table-asks ws vs i (hasTable ts (W.defined (word ws i))) (isPlaced ps (W.defined (word ws i))) (λ l. places-have ws vs ts ps ix (W.defined (word ws i)) (omega arith)))
-      (go (eqb (W.kind (word ws i)) 2) (readTable ws vs i (isPlaced ps (W.defined (word ws i)))))
+  agree zero i ts ps before len ix = rw (same-next i ts ps before ix) (go (eqb (W.kind (word ws i)) 2) (nextPlace ws vs i ps before))
     where
       go : (b : Bool) (m : Read Table)
           → Agree ws vs (if b give (λ _. m >>> λ _. stop 5 i) else (λ _. fine (ts, i))) (if b give (λ _. m >>> λ _. stop 5 i) else (λ _. fine (ps, i)))
       go true (fine r) = (refl, refl)
       go true (stop k x) = (refl, refl)
       go false m = (refl, ix)
-  agree (suc l) i ts ps len ix =
-      rw (table-asks ws vs i (hasTable ts (W.defined (word ws i))) (isPlaced ps (W.defined (word ws i))) (λ l. places-have ws vs ts ps ix (W.defined (word ws i)) (omega arith)))
-      (go (eqb (W.kind (word ws i)) 2) (readTable ws vs i (isPlaced ps (W.defined (word ws i)))) refl
-      (λ t j e. let r = table-read ws vs i j (isPlaced ps (W.defined (word ws i))) t e in
-      agree l j (ts ++ (t ∷ [])) (set ps (W.defined (word ws i)) (suc i)) (length-set ps (W.defined (word ws i)) (suc i) ∙ len)
-      (grown ws vs ts ps i j t ix len (omega (arith, r.below)) r)))
+  agree (suc l) i ts ps before len ix =
+      rw (same-next i ts ps before ix)
+      (go (eqb (W.kind (word ws i)) 2) (nextPlace ws vs i ps before) refl
+      (λ t j r. agree l j (ts ++ (t ∷ [])) (set ps (W.defined (word ws i)) (suc i)) (W.defined (word ws i))
+      (length-set ps (W.defined (word ws i)) (suc i) ∙ len) (grown ws vs ts ps i j t ix len (omega (arith, r.below)) r)))
     where
-      go : (b : Bool) (m : Read Table) → readTable ws vs i (isPlaced ps (W.defined (word ws i))) ≡ m
-          → ((t : Table) (j : ℕ) → readTable ws vs i (isPlaced ps (W.defined (word ws i))) ≡ fine (t, j)
-          → Agree ws vs (readTables ws vs l j (ts ++ (t ∷ []))) (readPlaces ws vs l j (set ps (W.defined (word ws i)) (suc i))))
-          → Agree ws vs (if b give (λ _. m >>> λ r. readTables ws vs l r.1 (ts ++ (r.0 ∷ []))) else (λ _. fine (ts, i)))
-          (if b give (λ _. m >>> λ r. readPlaces ws vs l r.1 (set ps (W.defined (word ws i)) (suc i))) else (λ _. fine (ps, i)))
-      go true (fine r) e ih = ih r.0 r.1 e
+      Now : (t : Table) (j : ℕ) → Type 0
+      Now t j = TableRead ws vs i j (isPlaced ps (W.defined (word ws i))) t
+
+      go : (b : Bool) (m : Read Table) → nextPlace ws vs i ps before ≡ m
+          → ((t : Table) (j : ℕ) → Now t j
+          → Agree ws vs (readTables ws vs l j (ts ++ (t ∷ [])) (W.defined (word ws i))) (readPlaces ws vs l j (set ps (W.defined (word ws i)) (suc i)) (W.defined (word ws i))))
+          → Agree ws vs (if b give (λ _. m >>> λ r. readTables ws vs l r.1 (ts ++ (r.0 ∷ [])) (W.defined (word ws i))) else (λ _. fine (ts, i)))
+          (if b give (λ _. m >>> λ r. readPlaces ws vs l r.1 (set ps (W.defined (word ws i)) (suc i)) (W.defined (word ws i))) else (λ _. fine (ps, i)))
+      go true (fine r) e ih = ih r.0 r.1 (next-read ws vs i r.1 ps before r.0 e)
       go true (stop k x) e ih = (refl, refl)
       go false m e ih = (refl, ix)
 
@@ -195,23 +206,23 @@ module _ (ws : List ℕ) (vs : List Variable) (few : length vs ≤ Max.max-varia
     unfolding tableOf NoTables
     at-first v l = rw (none_yet v l) absent
 
-    agreed : (n i : ℕ) → Agree ws vs (readTables ws vs n i []) (readPlaces ws vs n i p₀)
-    agreed n i = agree n i [] p₀ len at-first
+    agreed : (n i : ℕ) → Agree ws vs (readTables ws vs n i [] 0) (readPlaces ws vs n i p₀ 0)
+    agreed n i = agree n i [] p₀ 0 len at-first
 
     -- what the answer of readTables and what it wrote say of the meaning
-    pub tables-stopped : (n i k x : ℕ) (ps : List ℕ) → told (Refused k x) ps ≡ readPlaces ws vs n i p₀
-        → readTables ws vs n i [] ≡ stop k x
+    pub tables-stopped : (n i k x : ℕ) (ps : List ℕ) → told (Refused k x) ps ≡ readPlaces ws vs n i p₀ 0
+        → readTables ws vs n i [] 0 ≡ stop k x
     unfolding told
-    tables-stopped n i k x ps e = go (readTables ws vs n i []) (rw (← e) at (agreed n i))
+    tables-stopped n i k x ps e = go (readTables ws vs n i [] 0) (rw (← e) at (agreed n i))
       where
         go : (m : Read (List Table)) → Agree ws vs m (stop k x) → m ≡ stop k x
         go (stop l y) (p, q) = rw (p, q)
         go (fine a) h = absurd h
 
-    pub tables-read : (n i j : ℕ) (ps : List ℕ) → told (Next j) ps ≡ readPlaces ws vs n i p₀
-        → (ts : List Table) × (readTables ws vs n i [] ≡ fine (ts, j)) × Places ws vs ts ps
+    pub tables-read : (n i j : ℕ) (ps : List ℕ) → told (Next j) ps ≡ readPlaces ws vs n i p₀ 0
+        → (ts : List Table) × (readTables ws vs n i [] 0 ≡ fine (ts, j)) × Places ws vs ts ps
     unfolding told
-    tables-read n i j ps e = go (readTables ws vs n i []) (rw (← e) at (agreed n i))
+    tables-read n i j ps e = go (readTables ws vs n i [] 0) (rw (← e) at (agreed n i))
       where
         go : (m : Read (List Table)) → Agree ws vs m (fine (ps, j))
             → (ts : List Table) × (m ≡ fine (ts, j)) × Places ws vs ts ps

@@ -21,7 +21,8 @@ use Rattle.index.specs.Places.{reach, thenAt}
 use Rattle.reader.specs.Formulas.{faultOf, byType, formulaReach, rowReach, rowsReach}
 use Rattle.reader.proofs.TestLaws.{kind-past}
 use Rattle.reader.proofs.Answers.{then-reach, made-reach, then-next, then-stop}
-use Rattle.reader.proofs.Faults.{tested, tested-refused, tested-passed, word-then}
+use Rattle.theory.specs.Readers.{word-then}
+use Rattle.reader.proofs.Faults.{tested, tested-refused, tested-passed}
 
 -- ---- the formula of a row
 module _ (ws : List ℕ) (vs : List Variable) (t at : ℕ) (r : Reached) where

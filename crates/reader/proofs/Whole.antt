@@ -42,7 +42,7 @@ module _ (ws ps : List ℕ) where
     unfolding ReadAs readWords parsed VariablesAs
     words-variables k i e = rw (fit, rw e at hv)
 
-    module _ (n i : ℕ) (en : v ≡ Read n i) (t : Reached) (et : told t ps ≡ readPlaces ws (variablesTo ws p₁ n) n i p₁) where
+    module _ (n i : ℕ) (en : v ≡ Read n i) (t : Reached) (et : told t ps ≡ readPlaces ws (variablesTo ws p₁ n) n i p₁ 0) where
       read : VariablesRead ws p₁ n i
       unfolding VariablesAs
       read = rw en at hv
@@ -63,12 +63,12 @@ module _ (ws ps : List ℕ) where
       -- the places of the variables' words are as they were
       module _ (a : ℕ) (ea : t ≡ Next a) (s : Reached) (kept : variablesTo ws ps n ≡ variablesTo ws p₁ n)
           (es : s ≡ reach (readAssertions ws (variablesTo ws ps n) Max.max-assertions a)) where
-        stopped : (ts : List Table) (k x : ℕ) → readTables ws (variablesTo ws p₁ n) n i [] ≡ fine (ts, a)
+        stopped : (ts : List Table) (k x : ℕ) → readTables ws (variablesTo ws p₁ n) n i [] 0 ≡ fine (ts, a)
             → readAssertions ws (variablesTo ws ps n) Max.max-assertions a ≡ stop k x → ReadAs ws (Wrong k x) ps
         unfolding ReadAs readWords parsed
         stopped ts k x e f = rw (fit, read.variables-read, variables-length ws p₁ n, e, ← kept, f)
 
-        whole : (ts : List Table) (cs : List Condition) (j : ℕ) → readTables ws (variablesTo ws p₁ n) n i [] ≡ fine (ts, a)
+        whole : (ts : List Table) (cs : List Condition) (j : ℕ) → readTables ws (variablesTo ws p₁ n) n i [] 0 ≡ fine (ts, a)
             → readAssertions ws (variablesTo ws ps n) Max.max-assertions a ≡ fine (cs, j)
             → readWords ws ≡ ok (record { variables = variablesTo ws ps n; tables = ts; assertions = cs })
         unfolding readWords parsed

@@ -1,19 +1,18 @@
 // Tables with their rows.
 ghost use Rattle.std.specs.Prelude.{◌≡◌, ◌≤◌, length};
-ghost use Rattle.word.specs.Fields as F;
 ghost use Rattle.word.specs.Limits as Max;
-ghost use Rattle.meaning.specs.Reading as R;
 ghost use Rattle.index.specs.Places.{place-count, variablesTo, reach, told};
-ghost use Rattle.reader.specs.Tables.{isPlaced, readPlaces};
+ghost use Rattle.reader.specs.Tables.{nextPlace, readPlaces};
 
 use crate::rows::read_rows;
 use crate::tests::{fault, fits_kind, table_fits, table_ok};
 use index::{Reached, place_of, word_at};
 use word::{TABLE, class_read, defined, kind, sort};
 
-// A table with its rows. `places` has, by variable, the place of the first row of each table so far, 0 for none.
-fn read_table(words: &[u32], places: &[usize], n: usize, at: usize) -> Reached
-    ensures { result ≡ reach (R.readTable words.now (variablesTo words.now places.now n) at (isPlaced places.now (F.defined (R.word words.now at)))) }
+// A table with its rows, behind one for variable `before` (0 for none: no variable is lower). `places` has, by variable, the place of the
+// first row of each table so far, 0 for none.
+fn read_table(words: &[u32], places: &[usize], n: usize, at: usize, before: usize) -> Reached
+    ensures { result ≡ reach (nextPlace words.now (variablesTo words.now places.now n) at places.now before) }
 {
     if words.len() <= at {
         return Reached::Refused(2, at);
@@ -28,19 +27,23 @@ fn read_table(words: &[u32], places: &[usize], n: usize, at: usize) -> Reached
     if k != 0 {
         return Reached::Refused(k, at);
     }
+    if v < before {
+        return Reached::Refused(21, at);
+    }
     let t = sort(w);
     let m = class_read(w) as usize;
     read_rows(words, places, n, t, v, m, at + 1)
 }
 
-// The tables from `at` on. The place of each one's first row goes to the entry of the variable that it defines. A variable has one table,
-// so that there are n at most: one too many is refused for what is wrong with it, else by 5.
+// The tables from `at` on, in rising number of their variables. The place of each one's first row goes to the entry of the variable that it
+// defines. A variable has one table, so that there are n at most: one too many is refused for what is wrong with it, else by 5.
 pub fn read_tables(words: &[u32], places: &mut [usize], n: usize, at: usize) -> Reached
     requires { (length places.old ≡ place-count) × (n ≤ Max.max-variables) }
-    ensures places_after { told result places.new ≡ readPlaces words.now (variablesTo words.now places.old n) n at places.old }
+    ensures places_after { told result places.new ≡ readPlaces words.now (variablesTo words.now places.old n) n at places.old 0 }
     ensures n_unchanged { variablesTo words.now places.new n ≡ variablesTo words.now places.old n }
 {
     let mut on = at;
+    let mut before = 0;
     for i in 0..n {
         if words.len() <= on {
             return Reached::Next(on);
@@ -49,12 +52,13 @@ pub fn read_tables(words: &[u32], places: &mut [usize], n: usize, at: usize) -> 
         if kind(w) != TABLE {
             return Reached::Next(on);
         }
-        let table = read_table(words, &places[..], n, on);
+        let table = read_table(words, &places[..], n, on, before);
         match table {
             Reached::Refused(k, x) => return Reached::Refused(k, x),
             Reached::Next(j) => {
                 let v = defined(w) as usize;
                 places[v] = on + 1;
+                before = v;
                 on = j;
             }
         }
@@ -63,7 +67,7 @@ pub fn read_tables(words: &[u32], places: &mut [usize], n: usize, at: usize) -> 
     if kind(w) != TABLE {
         return Reached::Next(on);
     }
-    let table = read_table(words, &places[..], n, on);
+    let table = read_table(words, &places[..], n, on, before);
     match table {
         Reached::Refused(k, x) => Reached::Refused(k, x),
         Reached::Next(_) => Reached::Refused(5, on),

@@ -1,4 +1,4 @@
-// Tests of one word. Of one word 2 is tested first, then 4, then 3, then 5.
+// Tests of one word. Of one word 2 is tested first, then 4, then 3, then 5; of a table word also 21, after those (tables.rt).
 ghost use Rattle.std.specs.Prelude.{◌≡◌, [], ◌∷◌};
 ghost use Rattle.meaning.specs.Searches as S;
 ghost use Rattle.meaning.specs.Reading as R;

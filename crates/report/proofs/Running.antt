@@ -44,6 +44,7 @@ done-none (R.Broken b) h = refl
 done-none (R.NoState s) h = refl
 done-none (R.NotEnabled i) h = absurd (h i refl)
 done-none (R.Room n) h = refl
+done-none (R.Order i) h = refl
 
 -- ---- the lines, by the answer
 module _ (es tr xs ys part : List ℕ) (at : ℕ) (a : Answer) where

@@ -54,12 +54,16 @@ module _ (k x : ℕ) where
   unfolding refusalSays
   says-7 e = rw e
 
+  pub says-21 : k ≡ 21 → refusalSays (R.Order x) ≡ (k, x ∷ [])
+  unfolding refusalSays
+  says-21 e = rw e
+
   -- the number that is left
   pub says-8 : mem k typedNumbers ≡ true → (k ≡ 1 → ⊥) → (k ≡ 2 → ⊥) → (k ≡ 3 → ⊥) → (k ≡ 4 → ⊥) → (k ≡ 5 → ⊥) → (k ≡ 6 → ⊥) → (k ≡ 7 → ⊥)
-      → refusalSays (R.States x) ≡ (k, x ∷ [])
+      → (k ≡ 21 → ⊥) → refusalSays (R.States x) ≡ (k, x ∷ [])
   unfolding refusalSays mem
-  says-8 h a b c d e f g =
-      let l = simp (ne_eqb k 1 a, ne_eqb k 2 b, ne_eqb k 3 c, ne_eqb k 4 d, ne_eqb k 5 e, ne_eqb k 6 f, ne_eqb k 7 g) at h in
+  says-8 h a b c d e f g i =
+      let l = simp (ne_eqb k 1 a, ne_eqb k 2 b, ne_eqb k 3 c, ne_eqb k 4 d, ne_eqb k 5 e, ne_eqb k 6 f, ne_eqb k 7 g, ne_eqb k 21 i) at h in
       let q : k ≡ 8 = elim (mem-cons k 8 [] l) [ inl p ↦ p | inr p ↦ absurd (mem-none k p) ] in
       rw q
 

@@ -1,4 +1,4 @@
--- Document 01's number and list of values for each case of the answers. Every promise of an entry is stated through these.
+-- The documents' number and list of values for each case of the answers. Every promise of an entry is stated through these.
 use Rattle.std.specs.Prelude.{ℕ, List, [], ◌∷◌, length}
 use Rattle.meaning.specs.Answers.{Outcome, ok, refuse}
 use Rattle.scr.specs.declared.Refusal.{Refusal}
@@ -31,6 +31,7 @@ refusalSays (R.Broken b) = (14, b.assertion ∷ b.state ∷ b.input.variable ∷
 refusalSays (R.NoState s) = (15, s ∷ [])
 refusalSays (R.NotEnabled i) = (16, i ∷ [])
 refusalSays (R.Room n) = (17, n ∷ [])
+refusalSays (R.Order i) = (21, i ∷ [])
 
 -- the same as an answer
 unfoldable pub refused : {A : Type 0} → Refusal → Outcome A

@@ -79,7 +79,7 @@ pub struct Broken {
     pub input: Input,
 }
 
-// Document 01's refusals, each with what it carries. specs/Answers gives each its number.
+// The documents' refusals, each with what it carries. specs/Answers gives each its number.
 #[derive(Clone, Copy)]
 pub enum Refusal {
     Length(usize),
@@ -99,6 +99,7 @@ pub enum Refusal {
     NoState(u32),
     NotEnabled(usize),
     Room(usize),
+    Order(usize),
 }
 
 // A state, or the refusal.

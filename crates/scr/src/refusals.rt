@@ -1,4 +1,4 @@
-// Making the refusals: each function's promise is document 01's number and what is carried.
+// Making the refusals: each function's promise is its number in the documents and what is carried.
 ghost use Rattle.std.specs.Prelude.{◌≡◌, true, List, [], ◌∷◌, ℕ};
 ghost use Rattle.meaning.specs.Answers.{typedNumbers};
 ghost use Rattle.meaning.specs.Searches.{mem};
@@ -25,6 +25,7 @@ pub fn reading(number: u32, carried: usize) -> Refusal
         5 => Refusal::Fit(carried),
         6 => Refusal::NoTable(carried),
         7 => Refusal::InitialValue(carried),
+        21 => Refusal::Order(carried),
         _ => Refusal::States(carried),
     }
 }

@@ -9,7 +9,7 @@ use crate::Refusal;
 // No refusal carries more.
 pub const MAX_CARRIED: usize = 6;
 
-// Document 01's number of a refusal, and what it carries: the first `count` of `carried`.
+// The number of a refusal, and what it carries: the first `count` of `carried`.
 #[derive(Drop)]
 pub struct Told {
     pub number: u32,
@@ -126,5 +126,6 @@ pub fn tell(q: Refusal) -> Told
         Refusal::NoState(s) => one(15, s as u64),
         Refusal::NotEnabled(i) => one(16, i as u64),
         Refusal::Room(n) => one(17, n as u64),
+        Refusal::Order(i) => one(21, i as u64),
     }
 }

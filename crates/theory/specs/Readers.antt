@@ -1,7 +1,8 @@
 -- What a reader gives: one law for each way in which a reader is put together.
-use Rattle.std.specs.Prelude.{ℕ, ◌≡◌, refl, Bool, true, false}
+use Rattle.std.specs.Prelude.{ℕ, ◌≡◌, refl, Bool, true, false, List}
 use Rattle.std.proofs.Common.{sym, subst}
 use Rattle.meaning.specs.Answers.{Parse, fine, stop, ◌>>>◌, expect, if◌give◌else◌}
+use Rattle.meaning.specs.Reading.{Read, word, fits, wordAt}
 use Rattle.theory.specs.Found.{fine-same, fine-not-stop}
 
 -- where m does not stop, P holds of what it gives
@@ -52,3 +53,13 @@ given-as (stops n i) = stops n i
 pub given : {A : Type 0} {P : A → Type 0} {m : Parse A} (a : A) → Gives P m → m ≡ fine a → P a
 given {P} a (gives b p) e = subst P (fine-same e) p
 given a (stops n i) e = absurd (fine-not-stop (sym e))
+
+-- a word that fits is the word that is there
+pub word-then : {A : Type 0} (ws kinds : List ℕ) (i : ℕ) (f : ℕ → Read A)
+    → (wordAt ws kinds i >>> f) ≡ (expect (fits kinds (word ws i)) 2 i >>> λ _. f (word ws i))
+unfolding wordAt
+word-then {A} ws kinds i f = go (fits kinds (word ws i))
+  where
+    go : (b : Bool) → ◌≡◌ {A = Read A} (expect b 2 i >>> (λ _. fine (word ws i)) >>> f) (expect b 2 i >>> λ _. f (word ws i))
+    go true = refl
+    go false = refl

@@ -108,7 +108,7 @@ module _ (ws : List ℕ) where
       from : ℕ
       to : ℕ
       sooner : Follow ws vs first before from
-      here : readTable ws vs from false ≡ fine (t, to)
+      here : readTable ws vs from false false ≡ fine (t, to)
       later : Follow ws vs to after last
 
     parted : {i k : ℕ} (before : List Table) (t : Table) (after : List Table) → Follow ws vs i (before ++ (t ∷ after)) k → Parted i before t after k

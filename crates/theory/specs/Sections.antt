@@ -14,11 +14,11 @@ pub record Sections (ws : List ℕ) (z : TableSet) : Type 0 where
   pub first : ℕ
   pub variables : readVariables ws Max.max-variables 0 [] ≡ fine (z.variables, first)
   pub last : ℕ
-  pub tables : readTables ws z.variables (count z) first [] ≡ fine (z.tables, last)
+  pub tables : readTables ws z.variables (count z) first [] 0 ≡ fine (z.tables, last)
   pub end : ℕ
   pub assertions : readAssertions ws z.variables Max.max-assertions last ≡ fine (z.assertions, end)
 
-parsed-fine : {A : Type 0} (m : Parse A) (a : A) → parsed m ≡ ok a → m ≡ fine a
+pub parsed-fine : {A : Type 0} (m : Parse A) (a : A) → parsed m ≡ ok a → m ≡ fine a
 unfolding parsed
 parsed-fine (fine b) a e = rw (ok-same e)
 parsed-fine (stop n i) a e = absurd (ok-not-refuse (sym e))
@@ -29,7 +29,7 @@ sections ws z e =
     let a = bind-ok (demand (within 1 Max.max-words (length ws)) 1 (length ws ∷ [])) _ z e in
     let b = bind-ok (parsed (readVariables ws Max.max-variables 0 [])) _ z a.2 in
     let vs = b.0.0 in
-    let c = bind-ok (parsed (readTables ws vs (length vs) b.0.1 [])) _ z b.2 in
+    let c = bind-ok (parsed (readTables ws vs (length vs) b.0.1 [] 0)) _ z b.2 in
     let d = bind-ok (parsed (readAssertions ws vs Max.max-assertions c.0.1)) _ z c.2 in
     subst (Sections ws) (ok-same d.2) (record {
       words = demand-ok (within 1 Max.max-words (length ws)) 1 (length ws ∷ []) a.1;

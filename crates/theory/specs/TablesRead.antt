@@ -1,7 +1,7 @@
 -- The words of a set that reads, by their kinds: variables, then tables one after another, then assertions to the end. So the place of a
 -- table can be told from the kinds of words, and reading took just the words from there to the next table, assertion or the end.
 use Prim.Native.Nat.{ℕ, zero, suc, ◌≤◌, ◌<◌}
-use Rattle.std.specs.Prelude.{◌≡◌, ◌⊎◌, Bool, true, ◌&&◌, leb, ltb}
+use Rattle.std.specs.Prelude.{◌≡◌, ◌⊎◌, Bool, true, ◌&&◌, ◌||◌, leb, ltb}
 use Rattle.std.proofs.Math.Path.{refl, sym, ap, subst}
 use Rattle.std.proofs.Common.{◌∙◌, inl, not-suc-le-zero}
 use Rattle.std.proofs.Math.Logic.{inr}
@@ -17,9 +17,9 @@ use Rattle.meaning.specs.Answers.{ok, fine, ◌>>>◌, expect}
 use Rattle.meaning.specs.Searches.{mem, within}
 use Rattle.meaning.specs.Syntax.{Event, Variable, Body, Table, condition-table, TableSet}
 use Rattle.meaning.specs.Lookup.{definedBy, hasTable, count}
-use Rattle.meaning.specs.Reading.{Read, word, fits, conditionKinds, eventKinds, conditionBy, eventBy, testOk, variableOk, rowOk, rowsBy, bodyOf, eventTableBy, tableOk, tableFits, wordAt, readVariables, readCondition, readEvent, readRow, readRows, readBody, readTable, readTables, readAssertion, readAssertions, readWords}
+use Rattle.meaning.specs.Reading.{Read, word, fits, conditionKinds, eventKinds, conditionBy, eventBy, testOk, variableOk, rowOk, rowsBy, bodyOf, eventTableBy, tableOk, tableFits, wordAt, readVariables, readCondition, readEvent, readRow, readRows, readBody, readTable, nextTable, readTables, readAssertion, readAssertions, readWords}
 use Rattle.meaning.specs.TableWords.{Follow, nothing, more}
-use Rattle.theory.specs.Tests.{otherwise, true-not-false, not-true, and-true, eqb-true, leb-true, below-suc, all-of, mem-among, mem-cons, mem-none}
+use Rattle.theory.specs.Tests.{otherwise, true-not-false, not-true, and-true, eqb-true, leb-true, ltb-true, below-suc, all-of, mem-among, mem-cons, mem-none}
 use Rattle.theory.specs.Sections.{sections}
 use Rattle.theory.specs.Readers.{Gives, gives, stops, expected, after, past, so, branches, decides, given-as, given}
 
@@ -31,6 +31,13 @@ event-defined : (b : Bool) (t : Body Event) → definedBy (eventTableBy b t) ≡
 unfolding eventTableBy definedBy
 event-defined true t = refl
 event-defined false t = refl
+
+-- a table word whose fields are in range is of a variable that is there
+pub defined-below : (vs : List Variable) (w : ℕ) → tableOk vs w ≡ true → W.defined w < length vs
+unfolding tableOk
+defined-below vs w e =
+    let a = and-true _ (eqb (W.class-read w) Max.any || ltb (W.class-read w) (length vs)) e in
+    ltb-true (and-true (within 1 3 (W.sort w)) (ltb (W.defined w) (length vs)) a.0).1
 
 module _ (ws : List ℕ) where
   abbrev pub Kind : ℕ → ℕ
@@ -61,7 +68,7 @@ module _ (ws : List ℕ) where
       otherwise (eqb (Kind k) n) (λ e. true-not-false (subst (λ (x : ℕ). mem x bodyKinds ≡ true) (eqb-true e) h) f)
 
   -- ---- the readers
-  only-kind : (n i : ℕ) → mem (Kind i) (n ∷ []) ≡ true → Kind i ≡ n
+  pub only-kind : (n i : ℕ) → mem (Kind i) (n ∷ []) ≡ true → Kind i ≡ n
   only-kind n i h = elim (mem-cons (Kind i) n [] h) [ inl p ↦ p | inr p ↦ absurd (mem-none (Kind i) p) ]
 
   pub word-read : (kinds : List ℕ) (i : ℕ) → Gives (λ w. (w ≡ word ws i) × (mem (Kind i) kinds ≡ true)) (wordAt ws kinds i)
@@ -154,20 +161,23 @@ module _ (ws : List ℕ) where
         (λ _. after (rows-span (readEvent ws vs Max.max-depth) (event-spans Max.max-depth) (W.defined w) (W.class-read w) Max.max-rows i) λ r h.
         gives _ (event-defined (eqb (W.sort w) 1) (bodyOf w r.0), h))
 
-    table-spans : (i : ℕ) (taken : Bool) → Gives (λ r. (taken ≡ false) × TableAt i r.0 r.1) (readTable ws vs i taken)
+    pub table-spans : (i : ℕ) (taken lower : Bool)
+        → Gives (λ r. (taken ≡ false) × (lower ≡ false) × TableAt i r.0 r.1) (readTable ws vs i taken lower)
     unfolding readTable
-    table-spans i taken =
+    table-spans i taken lower =
         after (word-read (2 ∷ []) i) λ w h.
         past (expect (tableOk vs w) 3 i) λ _.
         after (expected (tableFits vs w && not taken) 5 i) λ _ e.
+        after (expected (not lower) 21 i) λ _ f.
         so (body-spans w (suc i)) λ r b. (
           not-true taken (and-true (tableFits vs w) (not taken) e).1,
+          not-true lower f,
           record { kind = only-kind 2 i h.1; defines = sym (b.0 ∙ ap W.defined h.0); body = b.1 },
         )
 
     -- ---- tables one after another
-    pub read-at : (i : ℕ) (t : Table) (j : ℕ) → readTable ws vs i false ≡ fine (t, j) → TableAt i t j
-    read-at i t j e = (given _ (table-spans i false) e).1
+    pub read-at : (i : ℕ) (t : Table) (j : ℕ) → readTable ws vs i false false ≡ fine (t, j) → TableAt i t j
+    read-at i t j e = (given _ (table-spans i false false) e).2
 
     -- the tables us are ts and those read from i on
     record Added (i : ℕ) (ts us : List Table) (k : ℕ) : Type 0 where
@@ -175,25 +185,26 @@ module _ (ws : List ℕ) where
       all : us ≡ ts ++ new
       follow : Follow ws vs i new k
 
-    untaken : (i : ℕ) (taken : Bool) (r : Table × ℕ) → taken ≡ false → readTable ws vs i taken ≡ fine r → readTable ws vs i false ≡ fine r
-    untaken i taken r t e = rw t at e
+    pub untaken : (i : ℕ) (taken lower : Bool) (r : Table × ℕ) → taken ≡ false → lower ≡ false → readTable ws vs i taken lower ≡ fine r
+        → readTable ws vs i false false ≡ fine r
+    untaken i taken lower r t l e = rw (t, l) at e
 
     none-added : (i : ℕ) (ts : List Table) → Added i ts ts i
     none-added i ts = record { new = []; all = sym (append-nil ts); follow = nothing }
 
-    tables-follow : (left i : ℕ) (ts : List Table) → Gives (λ r. Added i ts r.0 r.1) (readTables ws vs left i ts)
-    unfolding readTables
-    tables-follow zero i ts =
+    tables-follow : (left i : ℕ) (ts : List Table) (before : ℕ) → Gives (λ r. Added i ts r.0 r.1) (readTables ws vs left i ts before)
+    unfolding readTables nextTable
+    tables-follow zero i ts before =
         branches (eqb (Kind i) 2)
-        (λ _. past (readTable ws vs i (hasTable ts (W.defined (word ws i)))) (λ _. stops 5 i))
+        (λ _. past (nextTable ws vs i ts before) (λ _. stops 5 i))
         (λ _. gives (ts, i) (none-added i ts))
-    tables-follow (suc left) i ts =
+    tables-follow (suc left) i ts before =
         branches (eqb (Kind i) 2)
-        (λ _. after (given-as (table-spans i (hasTable ts (W.defined (word ws i))))) λ r h.
-        so (tables-follow left r.1 (ts ++ (r.0 ∷ []))) λ q a. record {
+        (λ _. after (given-as (table-spans i (hasTable ts (W.defined (word ws i))) (ltb (W.defined (word ws i)) before))) λ r h.
+        so (tables-follow left r.1 (ts ++ (r.0 ∷ [])) (W.defined (word ws i))) λ q a. record {
           new = r.0 ∷ a.new;
           all = a.all ∙ append_assoc ts (r.0 ∷ []) a.new;
-          follow = more (untaken i _ r h.0.0 h.1) a.follow;
+          follow = more (untaken i _ _ r h.0.0 h.0.1 h.1) a.follow;
         })
         (λ _. gives (ts, i) (none-added i ts))
 
@@ -242,7 +253,7 @@ module _ (ws : List ℕ) where
   pub layout : (z : TableSet) → readWords ws ≡ ok z → Layout z
   layout z e =
       let s = sections ws z e in
-      let t = given _ (tables-follow z.variables (count z) s.first []) s.tables in
+      let t = given _ (tables-follow z.variables (count z) s.first [] 0) s.tables in
       record {
         first = s.first;
         last = s.last;

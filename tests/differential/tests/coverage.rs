@@ -32,6 +32,7 @@ const KINDS: &[&str] = &[
     "REFUSE 15",
     "REFUSE 16",
     "REFUSE 17",
+    "REFUSE 21",
 ];
 
 fn counts(oracle: Oracle, inputs: impl Iterator<Item = Vec<u8>>) -> Counts {
@@ -46,6 +47,17 @@ fn every_answer_comes_often() {
     for kind in KINDS {
         assert!(counts.of(kind) >= 10, "{kind}\n{counts}");
     }
+    // Of 20,000 inputs 300 at least.
+    assert!(counts.of("REFUSE 21") >= 75, "{counts}");
+}
+
+/// Refusal 21 is one of reading, so every call that is refused gives it.
+#[test]
+fn every_call_meets_tables_out_of_number_order() {
+    for number in [probe::START, probe::STEP, probe::RUN, probe::VALUES, probe::CHECK] {
+        let counts = counts(PROBE, (0..1000).map(|index| nth_input_of(number, 1, index)));
+        assert!(counts.of("REFUSE 21") >= 10, "{counts}");
+    }
 }
 
 /// Of check alone, so that of 20,000 sets 100 at least have each refusal.
@@ -53,7 +65,7 @@ fn every_answer_comes_often() {
 fn every_answer_of_check_comes_often() {
     let counts = counts(PROBE, (0..4000).map(|index| nth_input_of(probe::CHECK, 1, index)));
     assert!(counts.of("PASS") >= 1000, "{counts}");
-    for number in 1..=14 {
+    for number in (1..=14).chain([21]) {
         let kind = if let 10 | 11 = number { format!("REFUSE {number} side 0") } else { format!("REFUSE {number}") };
         assert!(counts.of(&kind) >= 30, "{kind}\n{counts}");
     }
@@ -67,7 +79,7 @@ fn every_answer_of_the_program_comes_often() {
     let mut counts = Counts::default();
     inputs.iter().zip(&outputs).for_each(|(input, output)| counts.add(PROGRAM, input, output));
     assert!(counts.of("PASS") >= 1000, "{counts}");
-    for number in 1..=14 {
+    for number in (1..=14).chain([21]) {
         let kind = if let 10 | 11 = number { format!("REFUSE {number} side 0") } else { format!("REFUSE {number}") };
         assert!(counts.of(&kind) >= 10, "{kind}\n{counts}");
     }

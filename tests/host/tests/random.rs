@@ -21,8 +21,8 @@ fn checks() {
         assert_eq!(answer, host_check(&bytes), "check {index} of seed {SEED}: {bytes:02x?}");
         *counts.entry(answer).or_insert(0) += 1;
     }
-    assert!((0..=14).all(|answer| counts.get(&answer) >= Some(&LEAST)), "{counts:?}");
-    assert_eq!(counts.len(), 15);
+    assert!((0..=14).chain([21]).all(|answer| counts.get(&answer) >= Some(&LEAST)), "{counts:?}");
+    assert_eq!(counts.len(), 16);
 }
 
 #[test]
@@ -41,6 +41,6 @@ fn steps() {
         }
     }
     assert!(states >= LEAST);
-    assert!((1..=12).chain(15..=16).all(|answer| counts.get(&answer) >= Some(&LEAST)), "{counts:?}");
-    assert_eq!(counts.len(), 14);
+    assert!((1..=12).chain(15..=16).chain([21]).all(|answer| counts.get(&answer) >= Some(&LEAST)), "{counts:?}");
+    assert_eq!(counts.len(), 15);
 }

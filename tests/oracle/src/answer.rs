@@ -17,7 +17,7 @@ pub enum Answer {
 }
 
 impl Answer {
-    /// Document 01's number of a refusal, 0 where nothing is refused.
+    /// The number of a refusal, 0 where nothing is refused.
     pub fn refusal_number(&self) -> u32 {
         match self {
             Answer::Refuse(refusal) => refusal.number,

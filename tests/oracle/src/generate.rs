@@ -9,6 +9,7 @@ pub mod fault;
 pub mod formula;
 pub mod lawful;
 pub mod near;
+pub mod out_of_order;
 pub mod program;
 pub mod set_faults;
 pub mod shape;
@@ -39,15 +40,16 @@ pub fn nth_set(seed: u64, index: u64) -> Vec<u32> {
 /// Any set.
 pub fn set(random: &mut Random) -> Vec<u32> {
     match random.below(100) {
-        0..=31 => write::sheet(&lawful::sheet(random)),
-        32..=33 => with_spare_bit(random),
-        34..=39 => write::sheet(&wild::sheet(random)),
-        40..=48 => near_set(random),
-        49..=76 => aimed::any(random),
-        77..=79 => bounds::within(random),
-        80..=81 => bounds::over_otherwise(random),
-        82..=83 => several_faults(random),
-        84..=86 => two_faults_of_a_word(random),
+        0..=25 => write::sheet(&lawful::sheet(random)),
+        26..=27 => with_spare_bit(random),
+        28..=33 => write::sheet(&wild::sheet(random)),
+        34..=42 => near_set(random),
+        43..=72 => aimed::any(random),
+        73..=75 => aimed::aimed_at(random, 21),
+        76..=78 => bounds::within(random),
+        79..=80 => bounds::over_otherwise(random),
+        81..=82 => several_faults(random),
+        83..=86 => two_faults_of_a_word(random),
         87..=98 => damaged(random),
         _ => wild::noise(random),
     }
@@ -69,7 +71,7 @@ fn several_faults(random: &mut Random) -> Vec<u32> {
 }
 
 fn two_faults_of_a_word(random: &mut Random) -> Vec<u32> {
-    let number = random.between(3, 5) as u32;
+    let number = *random.pick(&[3, 4, 5, 21]);
     let words = aimed::aimed_at(random, number);
     word_faults::second_fault(random, words)
 }

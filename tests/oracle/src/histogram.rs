@@ -5,15 +5,16 @@ use crate::generate::{self, calls};
 use crate::perform::perform;
 use crate::random::Random;
 use crate::read::read;
+use crate::refusal;
 use std::fmt;
 
-/// Refusals are numbered 1 to 17; 0 stands for an answer that isn't refused.
-const ANSWERS: usize = 18;
+/// Refusals are numbered 1 to 17 and 21; 0 stands for an answer that isn't refused.
+const ANSWERS: usize = 22;
 
 #[derive(Clone, Debug, Default)]
 pub struct Histogram {
     pub sets: usize,
-    /// Sets that clear refusals 1 to 9.
+    /// Sets that clear refusals 1 to 9 and 21.
     pub reading: usize,
     /// Answers of check, by refusal.
     pub checks: [usize; ANSWERS],
@@ -56,11 +57,11 @@ impl fmt::Display for Histogram {
         let percent = |part: usize, whole: usize| 100.0 * part as f64 / whole.max(1) as f64;
         writeln!(f, "sets {}", self.sets)?;
         writeln!(f, "check pass {} {:.2}%", self.passing(), percent(self.passing(), self.sets))?;
-        for number in 1..=14 {
-            let count = self.checks[number];
+        for number in refusal::OF_CHECK {
+            let count = self.checks[number as usize];
             writeln!(f, "check refusal {number} {count} {:.2}%", percent(count, self.sets))?;
         }
-        for number in 0..ANSWERS {
+        for number in (0..=17).chain([21]) {
             let count = self.calls[number];
             writeln!(f, "other calls refusal {number} {count} {:.2}%", percent(count, self.sets))?;
         }

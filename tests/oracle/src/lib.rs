@@ -1,4 +1,4 @@
-//! A second checker for sets of SCR mode tables, written from document 01 alone, so that two may be compared.
+//! A second checker for sets of SCR mode tables, written from documents 01 and 02 alone, so that two may be compared.
 
 pub mod answer;
 pub mod bytes;

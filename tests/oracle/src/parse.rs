@@ -1,4 +1,4 @@
-//! Refusals 1 to 5: from words to what they say, each word tested for 2, then 4, then 3, then 5.
+//! Refusals 1 to 5 and 21: from words to what they say, each word tested for 2, then 4, then 3, then 5, then 21.
 
 use crate::limits;
 use crate::refusal::{self, Refusal};
@@ -82,6 +82,10 @@ impl Reader<'_> {
         }
         if !self.table_fits(table_type, variable, class_read) {
             return Err(refusal::unfit_table(index));
+        }
+        // The same variable again is tabled already, which is refusal 5.
+        if self.sheet.tables.last().is_some_and(|before| variable < before.variable) {
+            return Err(refusal::out_of_order(index));
         }
         let rows = match table_type {
             1 => Rows::Mode(self.rows(variable, class_read, Self::event)?),

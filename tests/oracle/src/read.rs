@@ -1,4 +1,4 @@
-//! A set that reads: refusals 1 to 5 word by word, then 6, 7, 8 and 9, each over all variables.
+//! A set that reads: refusals 1 to 5 and 21 word by word, then 6, 7, 8 and 9, each over all variables.
 
 use crate::limits;
 use crate::order;
@@ -7,7 +7,7 @@ use crate::refusal::{self, Refusal};
 use crate::syntax::{Class, Sheet, Table};
 use std::ops::Range;
 
-/// A set that clears refusals 1 to 9.
+/// A set that clears the refusals of reading, 1 to 9 and 21.
 #[derive(Clone, Debug, PartialEq, Eq)]
 pub struct Set {
     pub sheet: Sheet,

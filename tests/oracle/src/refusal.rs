@@ -1,4 +1,8 @@
-//! The refusals of document 01: the number of each and what it carries, in the order of its table.
+//! The refusals of documents 01 and 02: the number of each and what it carries, those of the words and of the set in the
+//! order in which they are tested.
+
+/// The refusals that check can give.
+pub const OF_CHECK: [u32; 15] = [1, 2, 3, 4, 5, 6, 7, 8, 9, 10, 11, 12, 13, 14, 21];
 
 #[derive(Clone, Debug, PartialEq, Eq)]
 pub struct Refusal {
@@ -43,6 +47,11 @@ pub fn over_limit(index: usize) -> Refusal {
 
 pub fn unfit_table(index: usize) -> Refusal {
     refusal(5, &[index as u64])
+}
+
+/// The table of a lower variable than that of the table before.
+pub fn out_of_order(index: usize) -> Refusal {
+    refusal(21, &[index as u64])
 }
 
 pub fn no_table(variable: usize) -> Refusal {

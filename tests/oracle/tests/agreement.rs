@@ -23,7 +23,7 @@ fn both_checks_agree_where_the_order_matters() {
 
 #[test]
 fn both_checks_agree_on_many_assertions() {
-    let mut refused = [0; 18];
+    let mut refused = [0; 22];
     for index in 0..2000 {
         let mut random = Random::of_item(31, index);
         let mut sheet = lawful::sheet(&mut random);

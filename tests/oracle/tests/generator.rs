@@ -44,9 +44,9 @@ fn sets_and_calls_of_a_seed() {
     assert_eq!(hash(inputs), PROGRAM_INPUTS);
 }
 
-const SETS: u64 = 4119756439199576142;
-const PROBE_INPUTS: u64 = 6128626725298555587;
-const PROGRAM_INPUTS: u64 = 16930442534856744777;
+const SETS: u64 = 10731347816062198442;
+const PROBE_INPUTS: u64 = 9379935934164612011;
+const PROGRAM_INPUTS: u64 = 5093428826466410651;
 
 #[test]
 fn sets_fit_the_probe() {

@@ -1,4 +1,4 @@
-//! The settled readings of document 01 on step, run, values, check, rows, host and program, one by one.
+//! The settled readings of documents 01 and 02 on step, run, values, check, rows, host and program, one by one.
 
 mod common;
 
@@ -207,10 +207,10 @@ fn reading_13_condition_tables_in_dependency_order() {
     assert_eq!(check(&by_number), refuse(10, &[0, 0, 1]));
     let z_first = joined(&[&variables, &gap(1, equals(2, 0)), &gap(2, TRUE)]);
     assert_eq!(check(&z_first), refuse(10, &[0, 0, 2]));
-    // Gap and overlap as they come, the overlap of the earlier table first.
-    let overlap = [table(3, 1, 255), row(EVERY, 0), TRUE, row(EVERY, 1), FALSE, row(EVERY, 1), TRUE];
-    assert_eq!(check(&joined(&[&variables, &overlap, &gap(2, TRUE)])), refuse(11, &[0, 0, 1, 0, 2]));
-    assert_eq!(check(&joined(&[&variables, &gap(2, TRUE), &overlap])), refuse(11, &[0, 0, 1, 0, 2]));
+    // Gap and overlap as they come: the overlap of the table that comes first, be it the second in the words.
+    let overlap = |number| [table(3, number, 255), row(EVERY, 0), TRUE, row(EVERY, 1), FALSE, row(EVERY, 1), TRUE];
+    assert_eq!(check(&joined(&[&variables, &overlap(1), &gap(2, TRUE)])), refuse(11, &[0, 0, 1, 0, 2]));
+    assert_eq!(check(&joined(&[&variables, &gap(1, equals(2, 0)), &overlap(2)])), refuse(11, &[0, 0, 2, 0, 2]));
 }
 
 #[test]
@@ -227,14 +227,17 @@ fn reading_13_all_states_before_any_step() {
 
 #[test]
 fn reading_13_steps_by_state_variable_value_and_table() {
-    let overlap = |number, c| joined(&[&[table(2, number, 255)], &[row(EVERY, 1), AT_T, c, TRUE].repeat(2)]);
+    let twice = |c: &[u32]| joined(&[&[row(EVERY, 1), AT_T], c, &[TRUE]]).repeat(2);
+    let overlap = |number, c: &[u32]| joined(&[&[table(2, number, 255)], &twice(c)]);
     let variables = [variable(INPUT, 3, 0), variable(INPUT, 3, 0), variable(TERM, 2, 0), variable(TERM, 2, 0)];
-    let first = |c2, c3| check(&joined(&[&variables, &overlap(3, c3), &overlap(2, c2)]));
-    assert_eq!(first(equals(0, 2), equals(0, 1)), refuse(12, &[0, 0, 1, 3, 0, 1]));
-    assert_eq!(first(equals(1, 1), equals(0, 2)), refuse(12, &[0, 0, 2, 3, 0, 1]));
-    assert_eq!(first(equals(0, 1), equals(0, 1)), refuse(12, &[0, 0, 1, 2, 0, 1]));
-    assert_eq!(first(equals(1, 2), equals(1, 1)), refuse(12, &[0, 1, 1, 3, 0, 1]));
-    assert_eq!(first(equals(0, 0), equals(1, 0)), refuse(12, &[1, 0, 0, 2, 0, 1]));
+    let first = |c2: &[u32], c3: &[u32]| check(&joined(&[&variables, &overlap(2, c2), &overlap(3, c3)]));
+    assert_eq!(first(&[equals(0, 2)], &[equals(0, 1)]), refuse(12, &[0, 0, 1, 3, 0, 1]));
+    assert_eq!(first(&[equals(1, 1)], &[equals(0, 2)]), refuse(12, &[0, 0, 2, 3, 0, 1]));
+    assert_eq!(first(&[equals(0, 1)], &[equals(0, 1)]), refuse(12, &[0, 0, 1, 2, 0, 1]));
+    assert_eq!(first(&[equals(1, 2)], &[equals(1, 1)]), refuse(12, &[0, 1, 1, 3, 0, 1]));
+    assert_eq!(first(&[equals(0, 0)], &[equals(1, 0)]), refuse(12, &[1, 0, 0, 2, 0, 1]));
+    // The table of 2 reads 3, which comes before it for that.
+    assert_eq!(first(&[AND, equals(0, 1), test(3, 1, 1)], &[equals(0, 1)]), refuse(12, &[0, 0, 1, 3, 0, 1]));
 }
 
 #[test]
@@ -305,17 +308,46 @@ fn reading_14_the_rows_of_a_table() {
     assert_eq!(rows(&SET_A, 3), &SET_A[SPINDLE..ASSERTION]);
     assert_eq!(part_index(&SET_A, rows(&SET_A, 3)), SPINDLE);
     assert_eq!(rows(&SET_A[..ASSERTION], 3), &SET_A[SPINDLE..ASSERTION]);
+    // By the variable defined, not by place.
     for variable in [0, 1, 4, 255, usize::MAX] {
         assert!(rows(&SET_A, variable).is_empty());
     }
-    // By the variable defined, not by place.
-    let swapped = joined(&[&SET_A[..4], &SET_A[SPINDLE..ASSERTION], &SET_A[4..SPINDLE], &SET_A[ASSERTION..]]);
-    assert_eq!(check(&swapped), pass(12, 24, 1));
-    assert_eq!(rows(&swapped, 2), &SET_A[4..SPINDLE]);
-    assert_eq!(part_index(&swapped, rows(&swapped, 3)), 4);
+    let variables = [variable(TERM, 2, 0), variable(INPUT, 2, 0), variable(TERM, 2, 0)];
+    let always = |number| [table(3, number, 255), row(EVERY, 0), TRUE];
+    let apart = joined(&[&variables, &always(0), &always(2)]);
+    assert_eq!(check(&apart), pass(2, 2, 0));
+    assert_eq!(part_index(&apart, rows(&apart, 0)), 3);
+    assert!(rows(&apart, 1).is_empty());
+    assert_eq!(part_index(&apart, rows(&apart, 2)), 6);
     // A set that doesn't read has none; one that reads but is refused by check has.
     assert!(rows(&SET_A[..28], 2).is_empty());
     assert_eq!(rows(&faulty(), 1), &faulty()[2..]);
+}
+
+// Document 02, request 2.7: refusal 21 is one of reading, in every call.
+
+#[test]
+fn tables_out_of_number_order_in_every_call() {
+    let swapped = joined(&[&SET_A[..4], &SET_A[SPINDLE..ASSERTION], &SET_A[4..SPINDLE], &SET_A[ASSERTION..]]);
+    let refused = refuse(21, &[11]);
+    assert_eq!(check(&swapped), refused);
+    assert_eq!(start(&swapped), refused);
+    // Before the events and the room for them, the state and the event.
+    let (mut trace, mut lent) = ([7; 3], [238; 5]);
+    assert_eq!(step(&swapped, 0, input_event(0, 1)), refused);
+    assert_eq!(step(&swapped, 99, 0), refused);
+    assert_eq!(run(&swapped, 0, &[input_event(0, 1)], &mut trace, 0), refused);
+    assert_eq!(run(&swapped, 0, &[], &mut trace, 9), refused);
+    assert_eq!(run(&swapped, 99, &[0; 4097], &mut trace, 9), refused);
+    assert_eq!(values(&swapped, 0, &mut lent), refused);
+    assert_eq!(values(&swapped, 99, &mut lent[..3]), refused);
+    assert_eq!((trace, lent), ([7; 3], [238; 5]));
+    assert!((0..5).all(|variable| rows(&swapped, variable).is_empty()));
+    assert_eq!(host_check(&to_bytes(&swapped)), 21);
+    assert_eq!(host_step(&to_bytes(&swapped), 0, input_event(0, 1)), 0x8000_0000 + 21);
+    assert_eq!(host_step(&to_bytes(&swapped), 99, 0), 0x8000_0000 + 21);
+    assert_eq!(printed(&to_bytes(&swapped)), "REFUSE 21 11\n");
+    assert_eq!(printed(&to_bytes(&joined(&[&swapped, &[to(1), to(0)]]))), "REFUSE 21 11\n");
 }
 
 // Reading 15: the host.

@@ -1,4 +1,4 @@
-//! The settled readings of document 01 on reading a set, one by one.
+//! The settled readings of documents 01 and 02 on reading a set, one by one.
 
 mod common;
 
@@ -269,6 +269,141 @@ fn unfit_tables() {
     assert_eq!(refused(&twice), refuse(5, &[6]));
 }
 
+// Document 02, request 2.7: tables in number order; of a table word 2, then 3, then 5, then 21.
+
+/// An input, a mode class and two terms.
+const FOUR: [u32; 4] = [variable_word(INPUT), variable_word(MODE), variable_word(TERM), variable_word(TERM)];
+
+/// A table of one of these three, by which it never changes.
+fn never(variable: u32) -> [u32; 3] {
+    let mode = variable == 1;
+    [table(if mode { 1 } else { 2 }, variable, if mode { 1 } else { 255 }), ROW, FALSE]
+}
+
+#[test]
+fn order_by_the_variable_defined() {
+    let set = |variables: &[u32]| {
+        let tables = variables.iter().flat_map(|&variable| never(variable));
+        FOUR.into_iter().chain(tables).collect::<Vec<u32>>()
+    };
+    assert_eq!(check(&set(&[1, 2, 3])), pass(16, 16, 0));
+    // At the second table and at the third.
+    assert_eq!(refused(&set(&[2, 1, 3])), refuse(21, &[7]));
+    assert_eq!(refused(&set(&[3, 1, 2])), refuse(21, &[7]));
+    assert_eq!(refused(&set(&[3, 2, 1])), refuse(21, &[7]));
+    assert_eq!(refused(&set(&[1, 3, 2])), refuse(21, &[10]));
+    assert_eq!(refused(&set(&[2, 3, 1])), refuse(21, &[10]));
+    // Rising, not one by one: what is left out is found after the words.
+    assert_eq!(refused(&set(&[1, 3])), refuse(6, &[2]));
+    assert_eq!(refused(&set(&[3, 1])), refuse(21, &[7]));
+    // A first table has none before it.
+    assert_eq!(check(&[variable(TERM, 2, 0), table(2, 0, 255), ROW, FALSE]), pass(2, 0, 0));
+}
+
+#[test]
+fn order_after_2_and_3() {
+    let after_3 = |word| refused(&joined(&[&FOUR, &never(3), &[word, ROW, FALSE]]));
+    assert_eq!(after_3(table(2, 2, 255)), refuse(21, &[7]));
+    for bit in 0..8 {
+        assert_eq!(after_3(table(2, 2, 255) | 1 << bit), refuse(2, &[7]));
+    }
+    for table_type in [0, 4, 15] {
+        assert_eq!(after_3(table(table_type, 2, 255)), refuse(3, &[7]));
+    }
+    assert_eq!(after_3(table(2, 2, 4)), refuse(3, &[7]));
+    assert_eq!(after_3(table(2, 4, 255)), refuse(3, &[7]));
+    // All at once.
+    assert_eq!(after_3(table(0, 0, 4) | 1), refuse(2, &[7]));
+    assert_eq!(after_3(table(0, 0, 4)), refuse(3, &[7]));
+}
+
+#[test]
+fn order_after_5() {
+    let after_3 = |word| refused(&joined(&[&FOUR, &never(3), &[word, ROW, FALSE]]));
+    // Monitored; the type of another class; a class read that is no mode class or not the variable itself.
+    let unfit = [
+        table(2, 0, 255),
+        table(3, 0, 1),
+        table(2, 1, 1),
+        table(3, 1, 255),
+        table(1, 2, 2),
+        table(2, 2, 0),
+        table(3, 2, 3),
+        table(1, 1, 255),
+    ];
+    for word in unfit {
+        assert_eq!(after_3(word), refuse(5, &[7]), "{word:x}");
+    }
+    for fit in [table(1, 1, 1), table(2, 2, 255), table(2, 2, 1), table(3, 2, 1)] {
+        assert_eq!(after_3(fit), refuse(21, &[7]), "{fit:x}");
+    }
+    // Tabled already: the same variable again, and a lower one.
+    assert_eq!(after_3(table(2, 3, 255)), refuse(5, &[7]));
+    assert_eq!(refused(&joined(&[&FOUR, &never(2), &never(3), &never(2)])), refuse(5, &[10]));
+    assert_eq!(refused(&joined(&[&FOUR, &never(1), &never(3), &never(1)])), refuse(5, &[10]));
+}
+
+#[test]
+fn order_before_the_rows_are_read() {
+    let row_of_no_mode =
+        [0x1100_2000, 0x1300_2000, 0x1300_2000, 0x2302_FF00, 0x3FF0_0000, 0x9000_0001, 0x2301_FF00, 0x3000_0005];
+    assert_eq!(refused(&row_of_no_mode), refuse(21, &[6]));
+    // What follows the table word, and the number it would have in number order.
+    let followed: [(u32, Vec<u32>); 11] = [
+        (2, vec![]),
+        (2, vec![ASSERT, TRUE]),
+        (2, vec![table(1, 1, 1), ROW, FALSE]),
+        (2, vec![0]),
+        (2, vec![ROW | 1 << 8, FALSE]),
+        (2, vec![ROW, NOT, FALSE]),
+        (3, vec![row(0, 0), FALSE]),
+        (3, vec![row(255, 2), FALSE]),
+        (3, vec![ROW, TRUE]),
+        (4, [ROW, FALSE].repeat(65)),
+        (4, joined(&[&[ROW], &[OR; 16], &[FALSE; 17]])),
+    ];
+    for (number, rows) in followed {
+        let set = |first, second| joined(&[&FOUR, &never(first), &[table(2, second, 255)], &rows]);
+        assert_eq!(refused(&set(2, 3)).refusal_number(), number, "{rows:x?}");
+        assert_eq!(refused(&set(3, 2)), refuse(21, &[7]), "{rows:x?}");
+    }
+}
+
+#[test]
+fn order_where_the_first_word_wins() {
+    // A row of the table before it, a table word after it, a table further down, an assertion.
+    let wrong_row = [table(2, 3, 255), row(255, 2), FALSE];
+    assert_eq!(refused(&joined(&[&FOUR, &wrong_row, &never(2)])), refuse(3, &[5]));
+    assert_eq!(refused(&joined(&[&FOUR, &never(3), &never(2), &[table(2, 0, 255)]])), refuse(21, &[7]));
+    assert_eq!(refused(&joined(&[&FOUR, &never(3), &never(2), &never(2)])), refuse(21, &[7]));
+    assert_eq!(refused(&joined(&[&FOUR, &never(3), &never(2), &[ASSERT]])), refuse(21, &[7]));
+    assert_eq!(refused(&joined(&[&FOUR, &[table(2, 0, 255)], &never(3), &never(2)])), refuse(5, &[4]));
+}
+
+#[test]
+fn order_before_all_that_shows_after_the_words() {
+    let (input, term, large) = (variable(INPUT, 2, 0), variable(TERM, 2, 0), variable(TERM, 256, 0));
+    let held = |number| vec![table(2, number, 255), ROW, FALSE];
+    let settled = |formula: &[u32]| joined(&[&[table(3, 1, 255), ROW], formula]);
+    let twice = [ROW, AT_T, equals(0, 1), TRUE].repeat(2);
+    // The number, the variables, the table of 1, what follows the table of 2.
+    let sets: [(u32, [u32; 3], Vec<u32>, Vec<u32>); 9] = [
+        (6, [term; 3], held(1), vec![]),
+        (7, [input, variable(TERM, 2, 1), term], settled(&[TRUE]), vec![]),
+        (8, [variable(INPUT, 256, 0), large, term], held(1), vec![]),
+        (9, [input, term, term], settled(&[equals(1, 0)]), vec![]),
+        (10, [input, term, term], settled(&[FALSE]), vec![]),
+        (11, [input, term, term], settled(&[TRUE, ROW, TRUE]), vec![]),
+        (12, [input, term, term], joined(&[&[table(2, 1, 255)], &twice]), vec![]),
+        (13, [input, term, term], held(1), vec![ASSERT, FALSE]),
+        (14, [input, term, term], held(1), vec![ASSERT, equals(0, 0)]),
+    ];
+    for (number, variables, table_of_1, after) in sets {
+        assert_eq!(check(&joined(&[&variables, &table_of_1, &held(2), &after])).refusal_number(), number);
+        assert_eq!(refused(&joined(&[&variables, &held(2), &table_of_1, &after])), refuse(21, &[6]), "{number}");
+    }
+}
+
 // Reading 6: 6 over all variables, then 7, then 8, then 9.
 
 #[test]
@@ -280,7 +415,7 @@ fn reading_6_order_after_the_words() {
     assert_eq!(refused(&joined(&[&tabled, &always(0), &always(1), &always(2)])), refuse(7, &[0]));
     // The lowest 7 of two.
     let two = [variable(TERM, 2, 0), variable(TERM, 2, 1), variable(TERM, 2, 1)];
-    assert_eq!(refused(&joined(&[&two, &always(2), &always(1), &always(0)])), refuse(7, &[1]));
+    assert_eq!(refused(&joined(&[&two, &always(0), &always(1), &always(2)])), refuse(7, &[1]));
     // 8 at variable 2 and 7 at variable 3.
     let large = variable(INPUT, 256, 0);
     let many = [large, large, large, variable(TERM, 2, 1)];
@@ -381,4 +516,14 @@ fn dependency_order_takes_the_lowest_again_and_again() {
     assert_eq!(set.order, [1, 3, 0, 2]);
     assert_eq!(read(&SET_A).unwrap().order, [0, 1, 2, 3]);
     assert_eq!(SET_A[ASSERTION], ASSERT);
+}
+
+#[test]
+fn dependency_order_against_number_order() {
+    let words = readers(&[&[1], &[2], &[]]);
+    assert_eq!(read(&words).unwrap().order, [2, 1, 0]);
+    assert_eq!(check(&words), pass(1, 0, 0));
+    // The tables in dependency order.
+    let in_dependency_order = joined(&[&words[..3], &words[13..], &words[8..13], &words[3..8]]);
+    assert_eq!(refused(&in_dependency_order), refuse(21, &[6]));
 }

@@ -1,18 +1,20 @@
 //! Sets aimed at one refusal of check.
 
-use super::{assertions, bounds, cheap, lawful, near, set_faults, word_faults};
+use super::{assertions, bounds, cheap, lawful, near, out_of_order, set_faults, word_faults};
 use crate::limits;
 use crate::random::Random;
 use crate::read::read;
+use crate::refusal;
 use crate::sweep::check_fast;
+use crate::syntax::Sheet;
 use crate::write;
 
 /// How often a set is drawn again that missed its refusal.
 const ATTEMPTS: usize = 12;
 
-/// The refusals that check can give, 1 to 14.
+/// Any refusal that check can give.
 pub fn any(random: &mut Random) -> Vec<u32> {
-    let number = random.between(1, 14) as u32;
+    let number = *random.pick(&refusal::OF_CHECK);
     aimed_at(random, number)
 }
 
@@ -39,15 +41,30 @@ fn attempt(random: &mut Random, number: u32) -> Vec<u32> {
         2 => word_faults::misplaced(random, write::sheet(&sheet)),
         3 => word_faults::out_of_range(random, &sheet),
         4 => bounds::over(random),
-        5 => word_faults::unfit_table(random, sheet),
-        6 => write::sheet(&set_faults::without_table(random, sheet)),
-        7 => write::sheet(&set_faults::with_initial_value(random, sheet)),
+        5 => {
+            let sheet = if random.chance(30) { out_of_order::tables(random, sheet) } else { sheet };
+            word_faults::unfit_table(random, sheet)
+        }
+        21 => {
+            let later = random.between(6, 14) as u32;
+            let sheet = if random.chance(50) { with_fault(random, sheet, later) } else { sheet };
+            out_of_order::words(random, sheet)
+        }
         8 if random.chance(50) => bounds::states(&bounds::too_many_states(random)),
-        8 => write::sheet(&set_faults::enlarged(random, sheet)),
-        9 => write::sheet(&set_faults::cyclic(random, sheet)),
-        10 | 11 => write::sheet(&near::other_row(random, sheet)),
-        12 => write::sheet(&near::overlapping(random, sheet)),
-        _ => write::sheet(&assertions::with_another(random, sheet, number == 14)),
+        _ => write::sheet(&with_fault(random, sheet, number)),
+    }
+}
+
+/// A fault that shows only after the words, aimed at refusal 6 to 14.
+fn with_fault(random: &mut Random, sheet: Sheet, number: u32) -> Sheet {
+    match number {
+        6 => set_faults::without_table(random, sheet),
+        7 => set_faults::with_initial_value(random, sheet),
+        8 => set_faults::enlarged(random, sheet),
+        9 => set_faults::cyclic(random, sheet),
+        10 | 11 => near::other_row(random, sheet),
+        12 => near::overlapping(random, sheet),
+        _ => assertions::with_another(random, sheet, number == 14),
     }
 }
 

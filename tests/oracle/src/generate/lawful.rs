@@ -23,11 +23,9 @@ pub fn middle_sheet(random: &mut Random) -> Sheet {
 }
 
 fn of_shape(random: &mut Random, shape: &Shape) -> Sheet {
+    // Tables in number order, as document 02 asks.
     let tabled = (0..shape.count()).filter(|&variable| shape.roles[variable] != Role::Input);
-    let mut tables: Vec<Table> = tabled.map(|variable| table(random, shape, variable)).collect();
-    if random.chance(70) {
-        random.shuffle(&mut tables);
-    }
+    let tables = tabled.map(|variable| table(random, shape, variable)).collect();
     let mut sheet = Sheet { variables: shape.variables.clone(), tables, assertions: Vec::new() };
     assertions::add(random, &shape.past(), &mut sheet);
     sheet

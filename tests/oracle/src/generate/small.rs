@@ -1,6 +1,7 @@
 //! Sets and calls small enough for a slow evaluator.
 
 use super::calls::Lengths;
+use super::word_faults::refused_word;
 use super::{bounds, reading_set, set};
 use crate::check::typed_steps;
 use crate::limits;
@@ -38,10 +39,8 @@ fn is_small(words: &[u32]) -> bool {
 
 /// Words well beyond a word that is refused by itself alter nothing, so most of them may go.
 fn shortened(random: &mut Random, mut words: Vec<u32>) -> Vec<u32> {
-    if let Err(refusal) = read(&words) {
-        if (2..=5).contains(&refusal.number) {
-            words.truncate(refusal.carried[0] as usize + 1 + random.below(8));
-        }
+    if let Some(at) = refused_word(&words) {
+        words.truncate(at + 1 + random.below(8));
     }
     words
 }

@@ -9,8 +9,7 @@ use crate::word;
 pub fn sheet(random: &mut Random) -> Sheet {
     let shape = Shape::new(random);
     let tabled = (0..shape.count()).filter(|&variable| shape.roles[variable] != Role::Input);
-    let mut tables: Vec<Table> = tabled.map(|variable| table(random, &shape, variable)).collect();
-    random.shuffle(&mut tables);
+    let tables = tabled.map(|variable| table(random, &shape, variable)).collect();
     let assertions = (0..random.below(3)).map(|_| formula::condition(random, &shape.past(), 3)).collect();
     Sheet { variables: shape.variables.clone(), tables, assertions }
 }

@@ -70,7 +70,7 @@ fn with_field(word: u32, (high, low): (u32, u32), value: u32) -> u32 {
     (word & !(most << low)) | (value & most) << low
 }
 
-fn with_any_field(random: &mut Random, word: u32) -> u32 {
+pub(super) fn with_any_field(random: &mut Random, word: u32) -> u32 {
     let fields = fields(kind(word));
     if fields.is_empty() {
         return word;
@@ -116,7 +116,8 @@ fn bounds_past(sheet: &Sheet, table_word: u32, word: u32) -> Vec<u32> {
     }
 }
 
-/// A table word with another type, variable or class read, or a second table of a variable.
+/// A table word with another type, variable or class read, or a second table of a variable. In a set out of number order it
+/// is the word that is refused for that.
 pub fn unfit_table(random: &mut Random, mut sheet: Sheet) -> Vec<u32> {
     if sheet.tables.is_empty() {
         return write::sheet(&sheet);
@@ -129,31 +130,40 @@ pub fn unfit_table(random: &mut Random, mut sheet: Sheet) -> Vec<u32> {
     }
     let mut words = write::sheet(&sheet);
     let places: Vec<usize> = (0..words.len()).filter(|&at| kind(words[at]) == word::TABLE).collect();
-    let at = *random.pick(&places);
+    let at = refused_word(&words).unwrap_or_else(|| *random.pick(&places));
     let count = sheet.variables.len() as u32;
     words[at] = match random.below(4) {
         0 => with_field(words[at], (27, 24), random.value_below(3) + 1),
-        1 => with_field(words[at], (23, 16), random.value_below(count)),
+        1 => {
+            let any = random.value_below(count);
+            let input = any_of(random, &sheet, Class::Monitored).filter(|_| random.chance(50));
+            with_field(words[at], (23, 16), input.unwrap_or(any))
+        }
         2 => with_field(words[at], (15, 8), if random.chance(20) { word::NONE } else { random.value_below(count) }),
-        _ => with_field(words[at], (15, 8), any_class(random, &sheet)),
+        _ => with_field(words[at], (15, 8), any_of(random, &sheet, Class::ModeClass).unwrap_or(word::NONE)),
     };
     words
 }
 
-fn any_class(random: &mut Random, sheet: &Sheet) -> u32 {
-    let classes: Vec<usize> =
-        (0..sheet.variables.len()).filter(|&v| sheet.variables[v].class == Class::ModeClass).collect();
-    if classes.is_empty() {
-        return word::NONE;
-    }
-    *random.pick(&classes) as u32
+/// A variable of a class, if there is one.
+fn any_of(random: &mut Random, sheet: &Sheet, class: Class) -> Option<u32> {
+    let variables = 0..sheet.variables.len() as u32;
+    let fit: Vec<u32> = variables.filter(|&variable| sheet.variables[variable as usize].class == class).collect();
+    (!fit.is_empty()).then(|| *random.pick(&fit))
 }
 
 /// Another fault in the word that is refused already: of one word the refusals have an order.
 pub fn second_fault(random: &mut Random, mut words: Vec<u32>) -> Vec<u32> {
-    let Err(refusal) = read(&words) else { return words };
-    if let (2..=5, Some(word)) = (refusal.number, words.get_mut(refusal.carried[0] as usize)) {
-        *word = if random.chance(60) { with_any_field(random, *word) } else { *word ^ 1 << random.below(28) };
+    if let Some(at) = refused_word(&words) {
+        let word = words[at];
+        words[at] = if random.chance(60) { with_any_field(random, word) } else { word ^ 1 << random.below(28) };
     }
     words
+}
+
+/// The index of the word that is refused by itself, if there is one.
+pub(super) fn refused_word(words: &[u32]) -> Option<usize> {
+    let refusal = read(words).err().filter(|refusal| matches!(refusal.number, 2..=5 | 21))?;
+    // An early end carries the length.
+    Some(refusal.carried[0] as usize).filter(|&index| index < words.len())
 }

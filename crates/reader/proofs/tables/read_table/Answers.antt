@@ -7,5 +7,8 @@ returns-then-words-at c = search table-laws
 pub returns-then-k-ne0 : goal.returns-then-k-ne0
 returns-then-k-ne0 c = search table-laws
 
+pub returns-then-v-before : goal.returns-then-v-before
+returns-then-v-before c = search table-laws
+
 pub returns : goal.returns
 returns c = search table-laws

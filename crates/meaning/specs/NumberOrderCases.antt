@@ -1,0 +1,92 @@
+-- Which sets are refused with 21, and at which word (document 02, request 2.7), by computation. Demand 1 takes the refusals of a word from
+-- the readers themselves, so these cases are what tells them from readers that try 21 elsewhere.
+use Rattle.std.specs.Prelude.{ℕ, ◌≡◌, refl, List, [], ◌∷◌, ◌++◌}
+use Rattle.meaning.specs.Answers.{ok, refuse}
+use Rattle.meaning.specs.Check.{checkOf}
+use Rattle.meaning.specs.Steps.{stepOf}
+use Rattle.meaning.specs.Run.{runOf}
+use Rattle.meaning.specs.Calls.{startOf, valuesOf, rowsOf}
+use Rattle.meaning.specs.Opened.{meaning}
+
+-- three terms, or an input and two terms; then the tables
+abbrev terms : List ℕ → List ℕ
+terms ts = 0x13002000 ∷ 0x13002000 ∷ 0x13002000 ∷ ts
+
+abbrev inputFirst : List ℕ → List ℕ
+inputFirst ts = 0x11002000 ∷ 0x13002000 ∷ 0x13002000 ∷ ts
+
+-- one row that always gives 0
+abbrev row : List ℕ
+row = 0x3FF00000 ∷ 0x90000001 ∷ []
+
+-- the table words of variables 0, 1 and 2, and the tables
+abbrev word0 : ℕ
+word0 = 0x2300FF00
+
+abbrev word1 : ℕ
+word1 = 0x2301FF00
+
+abbrev word2 : ℕ
+word2 = 0x2302FF00
+
+abbrev table0 : List ℕ
+table0 = word0 ∷ row
+
+abbrev table1 : List ℕ
+table1 = word1 ∷ row
+
+abbrev table2 : List ℕ
+table2 = word2 ∷ row
+
+-- the second office's sheets
+abbrev turned : List ℕ
+turned = inputFirst (table2 ++ table1)
+
+pub record NumberOrderCases : Type 0 where
+  pub rising : startOf (terms (table0 ++ (table1 ++ table2))) ≡ ok 0
+  -- the second table; the third, lower than the second and higher than the first
+  pub second : startOf (terms (table1 ++ (table0 ++ table2))) ≡ refuse 21 (6 ∷ [])
+  pub third : startOf (terms (table0 ++ (table2 ++ table1))) ≡ refuse 21 (9 ∷ [])
+  -- ---- 2, 3 and 5 at that word come first: a bit that no table word has; type 4; type 1, which a term doesn't have
+  pub spare-first : startOf (terms (table2 ++ (0x2301FF01 ∷ row))) ≡ refuse 2 (6 ∷ [])
+  pub range-first : startOf (terms (table2 ++ (0x2401FF00 ∷ row))) ≡ refuse 3 (6 ∷ [])
+  pub type-first : startOf (terms (table2 ++ (0x2101FF00 ∷ row))) ≡ refuse 5 (6 ∷ [])
+  -- the same variable again; a lower one that has a table; a lower one that is monitored
+  pub again : startOf (terms (table1 ++ table1)) ≡ refuse 5 (6 ∷ [])
+  pub lower-again : startOf (terms (table0 ++ (table1 ++ table0))) ≡ refuse 5 (9 ∷ [])
+  pub lower-input : startOf (inputFirst (table1 ++ table0)) ≡ refuse 5 (6 ∷ [])
+  -- ---- its rows come after: a row of value 5; no row; and all that follows, here variable 2 without a table
+  pub before-its-row : startOf (inputFirst (table2 ++ (word1 ∷ 0x30000005 ∷ []))) ≡ refuse 21 (6 ∷ [])
+  pub before-the-end : startOf (inputFirst (table2 ++ (word1 ∷ []))) ≡ refuse 21 (6 ∷ [])
+  pub before-no-table : startOf (terms (table1 ++ table0)) ≡ refuse 21 (6 ∷ [])
+  -- what stands before it comes first: the second row of the table before, of value 5
+  pub after-rows-before : startOf (inputFirst (table2 ++ (0x3FF00005 ∷ (word1 ∷ row)))) ≡ refuse 3 (6 ∷ [])
+  -- ---- every call
+  pub checked : checkOf turned ≡ refuse 21 (6 ∷ [])
+  pub stepped : stepOf turned 9 0 ≡ refuse 21 (6 ∷ [])
+  pub run : runOf turned 9 (0 ∷ []) (7 ∷ []) 3 ≡ record { answer = refuse 21 (6 ∷ []); lent = 7 ∷ [] }
+  pub valued : valuesOf turned 9 0 ≡ refuse 21 (6 ∷ [])
+  pub table : rowsOf turned 1 ≡ []
+
+pub number-order-cases : NumberOrderCases
+unfolding meaning
+number-order-cases = record {
+  rising = refl;
+  second = refl;
+  third = refl;
+  spare-first = refl;
+  range-first = refl;
+  type-first = refl;
+  again = refl;
+  lower-again = refl;
+  lower-input = refl;
+  before-its-row = refl;
+  before-the-end = refl;
+  before-no-table = refl;
+  after-rows-before = refl;
+  checked = refl;
+  stepped = refl;
+  run = refl;
+  valued = refl;
+  table = refl;
+}
