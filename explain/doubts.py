@@ -17,7 +17,7 @@ class Doubts:
         self.cut = [] if as_text else cut_lines(source)
         self.other_reading = as_text or []
         if turned:
-            self.other_reading = ["With the bytes of each word in the opposite order the words read as a set: the lowest byte of a word comes first."]
+            self.other_reading = ["With the bytes of each word in the opposite order the words have the form of a set: the lowest byte of a word comes first."]
 
     def look_beyond(self, source):
         """Words that the program does not look at; events of the command line count too."""

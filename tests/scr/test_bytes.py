@@ -61,7 +61,7 @@ class TakenForBytes(ScrCase):
         self.turned_around(OTHER_ORDER, turned(OTHER_ORDER))
 
     def turned_around(self, words, other):
-        said = "With the bytes of each word in the opposite order the words read as a set: the lowest byte of a word comes first."
+        said = "With the bytes of each word in the opposite order the words have the form of a set: the lowest byte of a word comes first."
         self.told(other, "TAKEN FOR BYTES", said)
         # Said of bytes that were called bytes, too.
         self.assertIn(said, " ".join(scr("--binary", "-", given=other)[1].split()))

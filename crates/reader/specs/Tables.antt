@@ -9,11 +9,12 @@ use Rattle.meaning.specs.Reading.{Read, word, readTable}
 unfoldable pub isPlaced : List ℕ → ℕ → Bool
 isPlaced ps v = not (eqb (get_or ps v 0) 0)
 
--- the places of the tables from i on, by variable: the reading of tables, with their places kept and not their rows
 module _ (ws : List ℕ) (vs : List Variable) where
+  -- the table at i behind those whose places are ps; `before` is the variable of the last of them, or 0
   unfoldable pub nextPlace : ℕ → List ℕ → ℕ → Read Table
   nextPlace i ps before = readTable ws vs i (isPlaced ps (W.defined (word ws i))) (ltb (W.defined (word ws i)) before)
 
+  -- the places of the tables from i on, by variable: the reading of tables, with their places kept and not their rows
   unfoldable pub readPlaces : ℕ → ℕ → List ℕ → ℕ → Read (List ℕ)
   readPlaces zero i ps before =
       if eqb (W.kind (word ws i)) 2 give (λ _. nextPlace i ps before >>> λ _. stop 5 i) else (λ _. fine (ps, i))

@@ -30,6 +30,10 @@ has-there (x ∷ us) t ts = go (eqb (definedBy x) (definedBy t)) (has-there us t
     go true h = refl
     go false h = h
 
+rest : (t : Table) (ts : List Table) → Rising (t ∷ ts) → Rising ts
+rest t [] h = tt
+rest t (u ∷ us) h = h.1
+
 -- one table more, of a higher variable
 one-more : (us : List Table) (t u : Table) → Rising (us ++ (t ∷ [])) → definedBy t < definedBy u → Rising (us ++ (t ∷ u ∷ []))
 one-more [] t u h l = (l, tt)
@@ -41,20 +45,16 @@ lowest-first : (x : Table) (us : List Table) (t : Table) (ts : List Table) → R
 lowest-first x [] t ts h = h.0
 lowest-first x (y ∷ us) t ts h = let l = lowest-first y us t ts h.1 in omega (arith, h.0)
 
-rest-rises : (x : Table) (us : List Table) (t : Table) (ts : List Table) → Rising (x ∷ (us ++ (t ∷ ts))) → Rising (us ++ (t ∷ ts))
-rest-rises x [] t ts h = h.1
-rest-rises x (y ∷ us) t ts h = h.1
-
 -- the table after u is of a higher variable
 pub next-higher : (us : List Table) (u t : Table) (ts : List Table) → Rising (us ++ (u ∷ t ∷ ts)) → definedBy u < definedBy t
 next-higher [] u t ts h = h.0
-next-higher (x ∷ us) u t ts h = next-higher us u t ts (rest-rises x us u (t ∷ ts) h)
+next-higher (x ∷ us) u t ts h = next-higher us u t ts (rest x (us ++ (u ∷ t ∷ ts)) h)
 
 -- a table of a higher variable than all before it is the first of its variable
 pub new-there : (us : List Table) (t : Table) (ts : List Table) → Rising (us ++ (t ∷ ts)) → hasTable us (definedBy t) ≡ false
 unfolding hasTable tableOf isSome
 new-there [] t ts h = refl
-new-there (x ∷ us) t ts h = go (eqb (definedBy x) (definedBy t)) refl (new-there us t ts (rest-rises x us t ts h))
+new-there (x ∷ us) t ts h = go (eqb (definedBy x) (definedBy t)) refl (new-there us t ts (rest x (us ++ (t ∷ ts)) h))
   where
     go : (b : Bool) → eqb (definedBy x) (definedBy t) ≡ b → isSome (tableOf us (definedBy t)) ≡ false
         → isSome (if b give (λ _. some x) else (λ _. tableOf us (definedBy t))) ≡ false
@@ -115,7 +115,7 @@ module _ (ws : List ℕ) (vs : List Variable) where
   tables-rise (suc left) i ts before l h =
       branches (eqb (W.kind (word ws i)) 2)
       (λ _. after (table-spans ws vs i (hasTable ts (W.defined (word ws i))) (ltb (W.defined (word ws i)) before)) λ r p.
-      let d = p.2.defines in
+      let d = p.3.defines in
       let n : hasTable ts (definedBy r.0) ≡ false = rw d at p.0 in
       let m : ltb (definedBy r.0) before ≡ false = rw d at p.1 in
       tables-rise left r.1 (ts ++ (r.0 ∷ [])) (W.defined (word ws i)) (rw d (last ts r.0)) (rises r.0 l h n m))
@@ -134,10 +134,6 @@ here t ts = rw (eqb-same (definedBy t))
 none-of-none : (v : ℕ) → ◌≡◌ {A = Option Table} none (tableOf [] v)
 unfolding tableOf
 none-of-none v = refl
-
-rest : (t : Table) (ts : List Table) → Rising (t ∷ ts) → Rising ts
-rest t [] h = tt
-rest t (u ∷ us) h = h.1
 
 -- the tables behind t are of higher variables
 none-up-to : (t : Table) (ts : List Table) (v : ℕ) → Rising (t ∷ ts) → v ≤ definedBy t → tableOf ts v ≡ none

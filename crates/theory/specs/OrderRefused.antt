@@ -16,10 +16,10 @@ use Rattle.meaning.specs.Reading.{Read, word, fits, tableOk, tableFits, readVari
 use Rattle.meaning.specs.TableWords.{Follow, nothing, more}
 use Rattle.meaning.specs.NumberOrder.{Rising, OutOfOrder}
 use Rattle.theory.specs.Tests.{true-not-false, not-true, and-true, true-eqb, ltb-true, true-ltb, true-leb, within-true}
-use Rattle.theory.specs.Found.{fine-not-stop, stop-same, refuse-same, ok-not-refuse, then-stop, expect-stop, then-fine, expect-fine, bind-refuse, demand-ok, demand-refuse}
+use Rattle.theory.specs.Found.{fine-not-stop, stop-same, refuse-same, ok-not-refuse, then-stop, expect-stop, bind-refuse, demand-ok, demand-refuse}
 use Rattle.theory.specs.Readers.{given, word-then}
 use Rattle.theory.specs.Sections.{parsed-fine}
-use Rattle.theory.specs.TablesRead.{TableAt, table-spans, read-at, untaken, only-kind, defined-below}
+use Rattle.theory.specs.TablesRead.{table-spans, read-at, untaken, only-kind}
 use Rattle.theory.specs.WordStops.{Stops, reads, stops, plainNumbers, variables-stops, body-stops, assertions-stops}
 use Rattle.theory.specs.NumberOrdered.{Last, none-yet, last, last-is, last-below, new-there, next-higher, rises}
 
@@ -113,56 +113,44 @@ module _ (ws : List ℕ) (vs : List Variable) (first : ℕ) (some : 1 ≤ length
             lower = m;
           })
 
-  tables-lower : (left i : ℕ) (ts : List Table) (before k : ℕ) → Last ts before → Rising ts → Follow ws vs first ts i
-      → readTables ws vs left i ts before ≡ stop 21 k → OutOfOrder ws k
-  unfolding readTables nextTable
-  tables-lower zero i ts before k l h f e = go (eqb (W.kind (word ws i)) 2) e
+  -- behind it, where it was read
+  one-further : (i : ℕ) (ts : List Table) (before : ℕ) → Last ts before → Rising ts → Follow ws vs first ts i
+      → (r : Table × ℕ) → nextTable ws vs i ts before ≡ fine r
+      → Last (ts ++ (r.0 ∷ [])) (W.defined (word ws i)) × Rising (ts ++ (r.0 ∷ [])) × Follow ws vs first (ts ++ (r.0 ∷ [])) r.1
+  unfolding nextTable
+  one-further i ts before l h f r q =
+      let p = given _ (table-spans ws vs i _ _) q in
+      let d = p.3.defines in
+      let n : hasTable ts (definedBy r.0) ≡ false = rw d at p.0 in
+      let m : ltb (definedBy r.0) before ≡ false = rw d at p.1 in
+      (rw d (last ts r.0), rises r.0 l h n m, follow-more ws vs f (untaken ws vs i _ _ r p.0 p.1 q))
+
+  -- the tables from i on, of which the one at i is followed by what `on` reads
+  next-or-after : (i : ℕ) (ts : List Table) (before k : ℕ) (on : Table × ℕ → Read (List Table)) → Last ts before → Rising ts → Follow ws vs first ts i
+      → ((r : Table × ℕ) → nextTable ws vs i ts before ≡ fine r → on r ≡ stop 21 k → OutOfOrder ws k)
+      → (if eqb (W.kind (word ws i)) 2 give (λ _. nextTable ws vs i ts before >>> on) else (λ _. fine (ts, i))) ≡ stop 21 k → OutOfOrder ws k
+  next-or-after i ts before k on l h f after = go (eqb (W.kind (word ws i)) 2)
     where
-      go : (b : Bool) → ◌≡◌ {A = Read (List Table)} (if b give (λ _. nextTable ws vs i ts before >>> λ _. stop 5 i) else (λ _. fine (ts, i))) (stop 21 k)
-          → OutOfOrder ws k
+      go : (b : Bool) → (if b give (λ _. nextTable ws vs i ts before >>> on) else (λ _. fine (ts, i))) ≡ stop 21 k → OutOfOrder ws k
       go true q =
-          elim (then-stop (nextTable ws vs i ts before) _ 21 k q) [
+          elim (then-stop (nextTable ws vs i ts before) on 21 k q) [
             | inl s ↦ next-lower i ts before k l h f s
-            | inr s ↦ absurd (let x : ◌≡◌ {A = ℕ} 5 21 = (stop-same s.2).0 in omega (arith, x))
+            | inr s ↦ after s.0 s.1 s.2
           ]
       go false q = absurd (fine-not-stop q)
+
+  tables-lower : (left i : ℕ) (ts : List Table) (before k : ℕ) → Last ts before → Rising ts → Follow ws vs first ts i
+      → readTables ws vs left i ts before ≡ stop 21 k → OutOfOrder ws k
+  unfolding readTables
+  tables-lower zero i ts before k l h f e =
+      next-or-after i ts before k (λ _. stop 5 i) l h f (λ r q s. absurd (let x : ◌≡◌ {A = ℕ} 5 21 = (stop-same s).0 in omega (arith, x))) e
   tables-lower (suc left) i ts before k l h f e =
-      go (eqb (W.kind (word ws i)) 2) e λ r q.
-      on r q (given _ (table-spans ws vs i _ _) q)
-      (tables-lower left r.1 (ts ++ (r.0 ∷ [])) (W.defined (word ws i)) k)
-    where
-      Rest : Table × ℕ → Read (List Table)
-      Rest r = readTables ws vs left r.1 (ts ++ (r.0 ∷ [])) (W.defined (word ws i))
-
-      on : (r : Table × ℕ) → nextTable ws vs i ts before ≡ fine r
-          → (hasTable ts (W.defined (word ws i)) ≡ false) × (ltb (W.defined (word ws i)) before ≡ false) × TableAt ws i r.0 r.1
-          → (Last (ts ++ (r.0 ∷ [])) (W.defined (word ws i)) → Rising (ts ++ (r.0 ∷ [])) → Follow ws vs first (ts ++ (r.0 ∷ [])) r.1
-          → Rest r ≡ stop 21 k → OutOfOrder ws k)
-          → Rest r ≡ stop 21 k → OutOfOrder ws k
-      on r q p ih =
-          let d = p.2.defines in
-          let n : hasTable ts (definedBy r.0) ≡ false = rw d at p.0 in
-          let m : ltb (definedBy r.0) before ≡ false = rw d at p.1 in
-          ih (rw d (last ts r.0)) (rises r.0 l h n m) (follow-more ws vs f (untaken ws vs i _ _ r p.0 p.1 q))
-
-      go : (b : Bool) → ◌≡◌ {A = Read (List Table)} (if b give (λ _. nextTable ws vs i ts before >>> Rest) else (λ _. fine (ts, i))) (stop 21 k)
-          → ((r : Table × ℕ) → nextTable ws vs i ts before ≡ fine r → Rest r ≡ stop 21 k → OutOfOrder ws k) → OutOfOrder ws k
-      go true q c =
-          elim (then-stop (nextTable ws vs i ts before) _ 21 k q) [
-            | inl s ↦ next-lower i ts before k l h f s
-            | inr s ↦ c s.0 s.1 s.2
-          ]
-      go false q c = absurd (fine-not-stop q)
+      next-or-after i ts before k (λ r. readTables ws vs left r.1 (ts ++ (r.0 ∷ [])) (W.defined (word ws i))) l h f
+      (λ r q. let m = one-further i ts before l h f r q in
+      tables-lower left r.1 (ts ++ (r.0 ∷ [])) (W.defined (word ws i)) k m.0 m.1 m.2) e
 
 -- ---- and back: tables in rising number are read as they follow each other
 module _ (ws : List ℕ) (vs : List Variable) where
-  table-ranged : (i j : ℕ) (t : Table) → readTable ws vs i false false ≡ fine (t, j) → tableOk vs (word ws i) ≡ true
-  unfolding readTable
-  table-ranged i j t e =
-      let a = then-fine (expect (fits (2 ∷ []) (word ws i)) 2 i) _ (t, j) (sym (word-then ws (2 ∷ []) i _) ∙ e) in
-      let b = then-fine (expect (tableOk vs (word ws i)) 3 i) _ (t, j) a.2 in
-      expect-fine (tableOk vs (word ws i)) 3 i b.0 b.1
-
   -- the variables up to the last table's
   passed : {ts : List Table} {before : ℕ} → Last ts before → ℕ
   passed none-yet = 0
@@ -185,9 +173,8 @@ module _ (ws : List ℕ) (vs : List Variable) where
   unfolding readTables nextTable passed
   reached nothing left before us l h room = record { more-left = left; now = before; ends = rw (append-nil us) l; on = rw (append-nil us) refl }
   reached (more {i} {j} {k} {t} {ts} e f) zero before us l h room =
-      let a = read-at ws vs i t j e in
-      let v = defined-below vs (word ws i) (table-ranged i j t e) in
-      absurd (omega (arith, v, a.defines, room, passed-by l t ts h))
+      let p = given _ (table-spans ws vs i false false) e in
+      absurd (omega (arith, p.2, p.3.defines, room, passed-by l t ts h))
   reached (more {i} {j} {k} {t} {ts} e f) (suc left) before us l h room =
       let a = read-at ws vs i t j e in
       let n : hasTable us (W.defined (word ws i)) ≡ false = rw a.defines (new-there us t ts h) in

@@ -162,22 +162,23 @@ module _ (ws : List ℕ) where
         gives _ (event-defined (eqb (W.sort w) 1) (bodyOf w r.0), h))
 
     pub table-spans : (i : ℕ) (taken lower : Bool)
-        → Gives (λ r. (taken ≡ false) × (lower ≡ false) × TableAt i r.0 r.1) (readTable ws vs i taken lower)
+        → Gives (λ r. (taken ≡ false) × (lower ≡ false) × (W.defined (word ws i) < length vs) × TableAt i r.0 r.1) (readTable ws vs i taken lower)
     unfolding readTable
     table-spans i taken lower =
         after (word-read (2 ∷ []) i) λ w h.
-        past (expect (tableOk vs w) 3 i) λ _.
+        after (expected (tableOk vs w) 3 i) λ _ o.
         after (expected (tableFits vs w && not taken) 5 i) λ _ e.
         after (expected (not lower) 21 i) λ _ f.
         so (body-spans w (suc i)) λ r b. (
           not-true taken (and-true (tableFits vs w) (not taken) e).1,
           not-true lower f,
+          rw h.0 at (defined-below vs w o),
           record { kind = only-kind 2 i h.1; defines = sym (b.0 ∙ ap W.defined h.0); body = b.1 },
         )
 
     -- ---- tables one after another
     pub read-at : (i : ℕ) (t : Table) (j : ℕ) → readTable ws vs i false false ≡ fine (t, j) → TableAt i t j
-    read-at i t j e = (given _ (table-spans i false false) e).2
+    read-at i t j e = (given _ (table-spans i false false) e).3
 
     -- the tables us are ts and those read from i on
     record Added (i : ℕ) (ts us : List Table) (k : ℕ) : Type 0 where
