@@ -30,7 +30,7 @@ def of_code():
 
 def of_definition():
     line = r"(∷ )?(?P<count>\d)  -- (?P<kind>\d+)(, (?P<name>.+))?"
-    return laid_out("crates/word/specs/Fields.antt", "\noperand-counts =\n", "    ∷ []", line)
+    return laid_out("crates/word/specs/Fields.antt", "\noperand_counts =\n", "    ∷ []", line)
 
 
 def of_format():

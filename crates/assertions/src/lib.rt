@@ -3,14 +3,14 @@
 
 ghost use Rattle.std.specs.Prelude.{◌≡◌};
 ghost use Rattle.word.specs.Limits as Max;
-ghost use Rattle.assertions.specs.Assertions.{countFrom, falseFrom};
+ghost use Rattle.assertions.specs.Assertions.{count_from, false_from};
 
 use judge::judge;
 use word::{MAX_ASSERTIONS, MAX_DEPTH, Value};
 
 // How many there are. Where a formula ends does not depend on the values.
 pub fn count_assertions(words: &[u32], values: &[Value], at: usize) -> usize
-    ensures { result ≡ countFrom words.now values.now Max.max-assertions at }
+    ensures { result ≡ count_from words.now values.now Max.max_assertions at }
 {
     let mut on = at;
     for j in 0..MAX_ASSERTIONS {
@@ -25,7 +25,7 @@ pub fn count_assertions(words: &[u32], values: &[Value], at: usize) -> usize
 
 // The first of the first `most` that is false at the values, `most` if none is.
 pub fn first_false(words: &[u32], values: &[Value], at: usize, most: usize) -> usize
-    ensures { result ≡ falseFrom words.now values.now most at }
+    ensures { result ≡ false_from words.now values.now most at }
 {
     let mut on = at;
     for j in 0..most {

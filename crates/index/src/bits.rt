@@ -1,14 +1,14 @@
 // Masks of variables: bit v of a mask stands for variable v.
 ghost use Rattle.std.specs.Prelude.{◌≡◌, ◌<◌, get_or};
 ghost use Rattle.word.specs.Limits as Max;
-ghost use Rattle.index.specs.Bits.{bitIn, oneBit};
+ghost use Rattle.index.specs.Bits.{bit_in, one_bit};
 
 use crate::number_at;
 use word::MAX_VARIABLES;
 
 // The mask of variable v alone; none past the last variable, as for the class of a table without one.
 pub fn one_bit(v: usize) -> u32
-    ensures { result ≡ oneBit v }
+    ensures { result ≡ one_bit v }
 {
     if MAX_VARIABLES <= v {
         return 0;
@@ -17,8 +17,8 @@ pub fn one_bit(v: usize) -> u32
 }
 
 pub fn bit(m: u32, b: usize) -> bool
-    requires { b < Max.max-variables }
-    ensures { result ≡ bitIn m b }
+    requires { b < Max.max_variables }
+    ensures { result ≡ bit_in m b }
 {
     (m >> b) & 1 == 1
 }

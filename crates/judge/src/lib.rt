@@ -6,9 +6,9 @@
 ghost use Rattle.std.specs.Prelude.{◌≡◌, ◌&&◌, ◌<◌, eqb, length};
 ghost use Rattle.word.specs.Fields as W;
 ghost use Rattle.word.specs.Limits as Max;
-ghost use Rattle.meaning.specs.Reading.{word, testOf};
-ghost use Rattle.meaning.specs.Steps.{true-in, modeIs};
-ghost use Rattle.judge.specs.Judge.{joinedBy, judgeBy, judgeAt, changedBy, changeAt, judgeEventAt, addRow, conditionRowsAt, eventRowsAt};
+ghost use Rattle.meaning.specs.Reading.{word, test_of};
+ghost use Rattle.meaning.specs.Steps.{true_in, mode_is};
+ghost use Rattle.judge.specs.Judge.{joined_by, judge_by, judge_at, changed_by, change_at, judge_event_at, add_row, condition_rows_at, event_rows_at};
 
 use index::{value_of, word_at};
 use word::{
@@ -34,7 +34,7 @@ pub enum Got {
 // ---- conditions
 // Is a test word true of the values?
 fn holds(w: u32, values: &[Value]) -> bool
-    ensures { result ≡ true-in values.now (testOf w) }
+    ensures { result ≡ true_in values.now (test_of w) }
 {
     let x = value_of(values, variable(w) as usize);
     let k = given(w);
@@ -47,7 +47,7 @@ fn holds(w: u32, values: &[Value]) -> bool
 
 // "and" or "or", by the kind of the word.
 fn joined(k: u32, a: bool, b: bool) -> bool
-    ensures { result ≡ joinedBy k a b }
+    ensures { result ≡ joined_by k a b }
 {
     if k == AND { a & b } else { a | b }
 }
@@ -55,7 +55,7 @@ fn joined(k: u32, a: bool, b: bool) -> bool
 // The condition at a place, at most `left` levels deep.
 #[cycle(judge)]
 pub fn judge(words: &[u32], values: &[Value], at: usize, left: usize) -> Judged
-    ensures { result ≡ judgeAt words.now values.now left at }
+    ensures { result ≡ judge_at words.now values.now left at }
 {
     if left == 0 {
         return Judged {
@@ -94,7 +94,7 @@ pub fn judge(words: &[u32], values: &[Value], at: usize, left: usize) -> Judged
 #[inline(never)]
 fn judge_operator(words: &[u32], values: &[Value], w: u32, at: usize, left: usize) -> Judged
     requires { (at < length words.now) × (W.operands w ≡ 0 → ⊥) }
-    ensures { result ≡ judgeBy values.now (judgeAt words.now values.now left) w at }
+    ensures { result ≡ judge_by values.now (judge_at words.now values.now left) w at }
 {
     if operands(w) == 2 {
         let a = judge(words, values, at + 1, left);
@@ -115,7 +115,7 @@ fn judge_operator(words: &[u32], values: &[Value], w: u32, at: usize, left: usiz
 // ---- events
 // Has c, false or true before the step (`old`) and after it (`new`), changed as the sort says, with d true before it (`when`)?
 fn changed(s: u32, old: bool, new: bool, when: bool) -> bool
-    ensures { result ≡ changedBy s old new when }
+    ensures { result ≡ changed_by s old new when }
 {
     if s == BECOMES_TRUE {
         (!old & new) & when
@@ -133,7 +133,7 @@ fn judge_change(
     at: usize,
     left: usize,
 ) -> Judged
-    ensures { result ≡ changeAt words.now before.now after.now left w at }
+    ensures { result ≡ change_at words.now before.now after.now left w at }
 {
     let old = judge(words, before, at, left);
     let new = judge(words, after, at, left);
@@ -152,7 +152,7 @@ pub fn judge_event(
     at: usize,
     left: usize,
 ) -> Judged
-    ensures { result ≡ judgeEventAt words.now before.now after.now left at }
+    ensures { result ≡ judge_event_at words.now before.now after.now left at }
 {
     if left == 0 {
         return Judged {
@@ -192,14 +192,14 @@ pub fn judge_event(
 // ---- rows
 // Does a row for mode m take part where the mode is x?
 fn mode_is(m: u32, x: u32) -> bool
-    ensures { result ≡ modeIs m x }
+    ensures { result ≡ mode_is m x }
 {
     (m == EVERY_MODE) | (m == x)
 }
 
 // The rows that hold so far, with row i, which gives k and holds if h.
 fn add_row(got: Got, h: bool, i: usize, k: Value) -> Got
-    ensures { result ≡ addRow got h i k }
+    ensures { result ≡ add_row got h i k }
 {
     if !h {
         return got;
@@ -213,7 +213,7 @@ fn add_row(got: Got, h: bool, i: usize, k: Value) -> Got
 
 // The same from the row's word w, the mode x and the truth of the row's formula.
 fn with_row(got: Got, w: u32, x: u32, truth: bool, i: usize) -> Got
-    ensures { result ≡ addRow got (modeIs (W.mode w) x && truth) i (W.value w) }
+    ensures { result ≡ add_row got (mode_is (W.mode w) x && truth) i (W.value w) }
 {
     let m = mode_is(mode(w), x);
     add_row(got, m & truth, i, given(w))
@@ -228,7 +228,7 @@ fn is_row(words: &[u32], at: usize) -> bool
 
 // The rows of a condition table that hold at the values. The first row stands at `at`, `mode` is the value of the class read.
 pub fn condition_rows(words: &[u32], values: &[Value], mode: u32, at: usize) -> Got
-    ensures { result ≡ conditionRowsAt words.now values.now mode Max.max-rows 0 at Got.Nothing }
+    ensures { result ≡ condition_rows_at words.now values.now mode Max.max_rows 0 at Got.Nothing }
 {
     let mut got = Got::Nothing;
     let mut on = at;
@@ -249,7 +249,7 @@ pub fn condition_rows(words: &[u32], values: &[Value], mode: u32, at: usize) -> 
 
 // The rows of a mode or event table that hold in the step; `mode` is the value before it of the class read.
 pub fn event_rows(words: &[u32], before: &[Value], after: &[Value], mode: u32, at: usize) -> Got
-    ensures { result ≡ eventRowsAt words.now before.now after.now mode Max.max-rows 0 at Got.Nothing }
+    ensures { result ≡ event_rows_at words.now before.now after.now mode Max.max_rows 0 at Got.Nothing }
 {
     let mut got = Got::Nothing;
     let mut on = at;

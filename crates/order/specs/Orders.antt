@@ -5,85 +5,85 @@ use Rattle.std.proofs.Math.Option.{Option, none, some}
 use Rattle.std.specs.Int.Bits.{bit_or}
 use Rattle.word.specs.Limits as Max
 use Rattle.meaning.specs.Answers.{Outcome, ok, refuse}
-use Rattle.meaning.specs.Searches.{least, orElse, all-below, iterate}
+use Rattle.meaning.specs.Searches.{least, or_else, all_below, iterate}
 use Rattle.meaning.specs.Order.{taking}
-use Rattle.index.specs.Bits.{bitIn, oneBit}
+use Rattle.index.specs.Bits.{bit_in, one_bit}
 use Rattle.order.specs.declared.Found.{Found}
 use Rattle.order.specs.declared.Found.TheVariants.{At, Nothing}
 use Rattle.order.specs.declared.Order.{Order}
 use Rattle.order.specs.declared.Order.TheVariants.{All, Cycle}
-use Rattle.order.specs.Masks.{masksAt}
+use Rattle.order.specs.Masks.{masks_at}
 
-unfoldable pub foundOf : Option ℕ → Found
-foundOf none = Nothing
-foundOf (some v) = At v
+unfoldable pub found_of : Option ℕ → Found
+found_of none = Nothing
+found_of (some v) = At v
 
 -- document 01's number and values for each case
-unfoldable pub cycleSaid : Order → Outcome (Unit {0})
-cycleSaid All = ok tt
-cycleSaid (Cycle w m) = refuse 9 (w ∷ m ∷ [])
+unfoldable pub cycle_said : Order → Outcome (Unit {0})
+cycle_said All = ok tt
+cycle_said (Cycle w m) = refuse 9 (w ∷ m ∷ [])
 
 -- the mask m with the variables of a list
-unfoldable pub maskOf : List ℕ → ℕ → ℕ
-maskOf [] m = m
-maskOf (v ∷ vs) m = maskOf vs (bit_or m (oneBit v))
+unfoldable pub mask_of : List ℕ → ℕ → ℕ
+mask_of [] m = m
+mask_of (v ∷ vs) m = mask_of vs (bit_or m (one_bit v))
 
 -- every bit of m below n is one of t
 unfoldable pub covered : ℕ → ℕ → ℕ → Bool
-covered m t n = all-below (λ b. not (bitIn m b) || bitIn t b) n
+covered m t n = all_below (λ b. not (bit_in m b) || bit_in t b) n
 
 -- ---- t is the mask of what is taken, or for the cycle of what is ever taken, so that the untaken are stuck
-unfoldable pub untakenBy : ℕ → ℕ → Bool
-untakenBy t v = not (bitIn t v)
+unfoldable pub untaken_by : ℕ → ℕ → Bool
+untaken_by t v = not (bit_in t v)
 
-unfoldable pub leastStuck : ℕ → ℕ → Option ℕ
-leastStuck t n = least (untakenBy t) n
+unfoldable pub least_stuck : ℕ → ℕ → Option ℕ
+least_stuck t n = least (untaken_by t) n
 
 -- b is stuck, and read by what has the mask m
-unfoldable pub stuckRead : ℕ → ℕ → ℕ → Bool
-stuckRead m t b = untakenBy t b && bitIn m b
+unfoldable pub stuck_read : ℕ → ℕ → ℕ → Bool
+stuck_read m t b = untaken_by t b && bit_in m b
 
 module _ (ms : List ℕ) (n : ℕ) where
-  unfoldable pub readyBy : ℕ → ℕ → Bool
-  readyBy t v = untakenBy t v && covered (get_or ms v 0) t n
+  unfoldable pub ready_by : ℕ → ℕ → Bool
+  ready_by t v = untaken_by t v && covered (get_or ms v 0) t n
 
-  unfoldable pub leastReady : ℕ → Option ℕ
-  leastReady t = least (readyBy t) n
+  unfoldable pub least_ready : ℕ → Option ℕ
+  least_ready t = least (ready_by t) n
 
-  unfoldable pub takeBy : ℕ → List ℕ → List ℕ
-  takeBy zero taken = taken
-  takeBy (suc k) taken = taking (leastReady (maskOf taken 0)) taken (takeBy k)
+  unfoldable pub take_by : ℕ → List ℕ → List ℕ
+  take_by zero taken = taken
+  take_by (suc k) taken = taking (least_ready (mask_of taken 0)) taken (take_by k)
 
-  unfoldable pub orderBy : List ℕ
-  orderBy = takeBy n []
+  unfoldable pub order_by : List ℕ
+  order_by = take_by n []
 
-  unfoldable pub takenBy : ℕ
-  takenBy = maskOf orderBy 0
+  unfoldable pub taken_by : ℕ
+  taken_by = mask_of order_by 0
 
   module _ (t : ℕ) where
-    unfoldable pub moveBy : ℕ → ℕ
-    moveBy v = orElse (least (stuckRead (get_or ms v 0) t) n) v
+    unfoldable pub move_by : ℕ → ℕ
+    move_by v = or_else (least (stuck_read (get_or ms v 0) t) n) v
 
-    unfoldable pub shownBy : ℕ → ℕ
-    shownBy v = iterate moveBy Max.cycle-moves v
+    unfoldable pub shown_by : ℕ → ℕ
+    shown_by v = iterate move_by Max.cycle_moves v
 
     -- k + 1 moves lead from w to w
-    unfoldable pub homeBy : ℕ → ℕ → Bool
-    homeBy w k = eqb (iterate moveBy (suc k) w) w
+    unfoldable pub home_by : ℕ → ℕ → Bool
+    home_by w k = eqb (iterate move_by (suc k) w) w
 
-    unfoldable pub backBy : ℕ → ℕ
-    backBy w = suc (orElse (least (homeBy w) n) 0)
+    unfoldable pub back_by : ℕ → ℕ
+    back_by w = suc (or_else (least (home_by w) n) 0)
 
-    unfoldable pub cycleOf : Option ℕ → Outcome (Unit {0})
-    cycleOf none = ok tt
-    cycleOf (some v) = refuse 9 (shownBy v ∷ backBy (shownBy v) ∷ [])
+    unfoldable pub cycle_of : Option ℕ → Outcome (Unit {0})
+    cycle_of none = ok tt
+    cycle_of (some v) = refuse 9 (shown_by v ∷ back_by (shown_by v) ∷ [])
 
-    unfoldable pub cycleBy : Outcome (Unit {0})
-    cycleBy = cycleOf (leastStuck t n)
+    unfoldable pub cycle_by : Outcome (Unit {0})
+    cycle_by = cycle_of (least_stuck t n)
 
 -- ---- from words and places
-unfoldable pub orderAt : List ℕ → List ℕ → ℕ → List ℕ
-orderAt ws ps n = orderBy (masksAt ws ps) n
+unfoldable pub order_at : List ℕ → List ℕ → ℕ → List ℕ
+order_at ws ps n = order_by (masks_at ws ps) n
 
-unfoldable pub noCycleAt : List ℕ → List ℕ → ℕ → Outcome (Unit {0})
-noCycleAt ws ps n = cycleBy (masksAt ws ps) n (takenBy (masksAt ws ps) n)
+unfoldable pub no_cycle_at : List ℕ → List ℕ → ℕ → Outcome (Unit {0})
+no_cycle_at ws ps n = cycle_by (masks_at ws ps) n (taken_by (masks_at ws ps) n)

@@ -4,9 +4,9 @@
 
 ghost use Rattle.std.specs.Prelude.{◌≡◌, not, ◌||◌, ◌≤◌, ◌<◌, length, get_or, take};
 ghost use Rattle.word.specs.Limits as Max;
-ghost use Rattle.index.specs.Bits.{bitIn};
-ghost use Rattle.order.specs.Masks.{conditionMask, eventMask, formulaMask, rowsMask, tableMask, masksAt};
-ghost use Rattle.order.specs.Orders.{covered, untakenBy, readyBy, leastReady, foundOf, orderBy, takenBy, leastStuck, stuckRead, moveBy, shownBy, backBy, cycleSaid, cycleBy, orderAt, noCycleAt};
+ghost use Rattle.index.specs.Bits.{bit_in};
+ghost use Rattle.order.specs.Masks.{condition_mask, event_mask, formula_mask, rows_mask, table_mask, masks_at};
+ghost use Rattle.order.specs.Orders.{covered, untaken_by, ready_by, least_ready, found_of, order_by, taken_by, least_stuck, stuck_read, move_by, shown_by, back_by, cycle_said, cycle_by, order_at, no_cycle_at};
 
 use index::bits::{bit, mask_of, one_bit};
 use index::{place_of, word_at};
@@ -25,7 +25,7 @@ pub struct Masked {
 // ---- what a table reads
 // The variables that the condition at a place tests. `left` levels may still stand.
 pub fn condition_mask(words: &[u32], at: usize, left: usize) -> Masked
-    ensures { result ≡ conditionMask words.now left at }
+    ensures { result ≡ condition_mask words.now left at }
 {
     if left == 0 {
         return Masked { mask: 0, next: at };
@@ -61,7 +61,7 @@ pub fn condition_mask(words: &[u32], at: usize, left: usize) -> Masked
 
 // The variables that the event at a place tests inside c of a change. Tests in d read the past, so only d's end is wanted.
 pub fn event_mask(words: &[u32], at: usize, left: usize) -> Masked
-    ensures { result ≡ eventMask words.now left at }
+    ensures { result ≡ event_mask words.now left at }
 {
     if left == 0 {
         return Masked { mask: 0, next: at };
@@ -96,7 +96,7 @@ pub fn event_mask(words: &[u32], at: usize, left: usize) -> Masked
 
 // The formula of a row in a table of type t.
 fn formula_mask(words: &[u32], t: u32, at: usize) -> Masked
-    ensures { result ≡ formulaMask words.now t at }
+    ensures { result ≡ formula_mask words.now t at }
 {
     if t == CONDITION_TABLE {
         condition_mask(words, at, MAX_DEPTH)
@@ -107,7 +107,7 @@ fn formula_mask(words: &[u32], t: u32, at: usize) -> Masked
 
 // `first` and what the rows from a place on read.
 fn rows_mask(words: &[u32], t: u32, at: usize, first: u32) -> u32
-    ensures { result ≡ rowsMask words.now t Max.max-rows at first }
+    ensures { result ≡ rows_mask words.now t Max.max_rows at first }
 {
     let mut mask = first;
     let mut on = at;
@@ -128,7 +128,7 @@ fn rows_mask(words: &[u32], t: u32, at: usize, first: u32) -> u32
 
 // What variable v reads. A table of type 3 reads the class that its table word names, whatever its rows' modes.
 fn table_mask(words: &[u32], places: &[usize], v: usize) -> u32
-    ensures { result ≡ tableMask words.now (get_or places.now v 0) }
+    ensures { result ≡ table_mask words.now (get_or places.now v 0) }
 {
     let p = place_of(places, v);
     if p == 0 {
@@ -146,8 +146,8 @@ fn table_mask(words: &[u32], places: &[usize], v: usize) -> u32
 
 // The masks of all variables. Past the last variable there is no table and the mask is 0.
 pub fn fill_masks(words: &[u32], places: &[usize], masks: &mut [u32])
-    requires { length masks.old ≡ Max.max-variables }
-    ensures { masks.new ≡ masksAt words.now places.now }
+    requires { length masks.old ≡ Max.max_variables }
+    ensures { masks.new ≡ masks_at words.now places.now }
 {
     for v in 0..MAX_VARIABLES {
         masks[v] = table_mask(words, places, v);
@@ -156,16 +156,16 @@ pub fn fill_masks(words: &[u32], places: &[usize], masks: &mut [u32])
 
 // ---- the dependency order; `taken` is the mask of the variables taken so far
 fn untaken(taken: u32, v: usize) -> bool
-    requires { v < Max.max-variables }
-    ensures { result ≡ untakenBy taken v }
+    requires { v < Max.max_variables }
+    ensures { result ≡ untaken_by taken v }
 {
     !bit(taken, v)
 }
 
 // Is b read and not yet taken?
 fn missing(m: u32, taken: u32, b: usize) -> bool
-    requires { b < Max.max-variables }
-    ensures { result ≡ not (not (bitIn m b) || bitIn taken b) }
+    requires { b < Max.max_variables }
+    ensures { result ≡ not (not (bit_in m b) || bit_in taken b) }
 {
     let x = bit(m, b);
     let y = bit(taken, b);
@@ -173,7 +173,7 @@ fn missing(m: u32, taken: u32, b: usize) -> bool
 }
 
 fn all_taken(m: u32, taken: u32, n: usize) -> bool
-    requires { n ≤ Max.max-variables }
+    requires { n ≤ Max.max_variables }
     ensures { result ≡ covered m taken n }
 {
     for b in 0..n {
@@ -186,8 +186,8 @@ fn all_taken(m: u32, taken: u32, n: usize) -> bool
 
 // Is v untaken, and all that it reads taken?
 fn ready(masks: &[u32], n: usize, taken: u32, v: usize) -> bool
-    requires { (n ≤ Max.max-variables) × (v < n) }
-    ensures { result ≡ readyBy masks.now n taken v }
+    requires { (n ≤ Max.max_variables) × (v < n) }
+    ensures { result ≡ ready_by masks.now n taken v }
 {
     let x = untaken(taken, v);
     let m = mask_of(masks, v);
@@ -203,8 +203,8 @@ enum Found {
 }
 
 fn next_ready(masks: &[u32], n: usize, taken: u32) -> Found
-    requires { n ≤ Max.max-variables }
-    ensures { result ≡ foundOf (leastReady masks.now n taken) }
+    requires { n ≤ Max.max_variables }
+    ensures { result ≡ found_of (least_ready masks.now n taken) }
 {
     for v in 0..n {
         if ready(masks, n, taken, v) {
@@ -216,10 +216,10 @@ fn next_ready(masks: &[u32], n: usize, taken: u32) -> Found
 
 // Writes the order and gives the mask of the variables in it.
 fn take_ready(masks: &[u32], n: usize, order: &mut [usize]) -> u32
-    requires { (n ≤ Max.max-variables) × (length order.old ≡ Max.max-variables) }
-    ensures value { result ≡ takenBy masks.now n }
-    ensures order_after { take (length (orderBy masks.now n)) order.new ≡ orderBy masks.now n }
-    ensures order_len { length order.new ≡ Max.max-variables }
+    requires { (n ≤ Max.max_variables) × (length order.old ≡ Max.max_variables) }
+    ensures value { result ≡ taken_by masks.now n }
+    ensures order_after { take (length (order_by masks.now n)) order.new ≡ order_by masks.now n }
+    ensures order_len { length order.new ≡ Max.max_variables }
 {
     let mut taken = 0u32;
     for i in 0..n {
@@ -237,8 +237,8 @@ fn take_ready(masks: &[u32], n: usize, order: &mut [usize]) -> u32
 
 // ---- the cycle shown; `taken` is the mask of all that is ever taken, so the others are stuck
 fn lowest_stuck(n: usize, taken: u32) -> Found
-    requires { n ≤ Max.max-variables }
-    ensures { result ≡ foundOf (leastStuck taken n) }
+    requires { n ≤ Max.max_variables }
+    ensures { result ≡ found_of (least_stuck taken n) }
 {
     for v in 0..n {
         if untaken(taken, v) {
@@ -250,8 +250,8 @@ fn lowest_stuck(n: usize, taken: u32) -> Found
 
 // Is b stuck and read?
 fn stuck_read(m: u32, taken: u32, b: usize) -> bool
-    requires { b < Max.max-variables }
-    ensures { result ≡ stuckRead m taken b }
+    requires { b < Max.max_variables }
+    ensures { result ≡ stuck_read m taken b }
 {
     let x = untaken(taken, b);
     let y = bit(m, b);
@@ -260,8 +260,8 @@ fn stuck_read(m: u32, taken: u32, b: usize) -> bool
 
 // The lowest stuck variable that v reads; v where it reads none, which is never so of a stuck one.
 fn move_on(masks: &[u32], n: usize, taken: u32, v: usize) -> usize
-    requires { n ≤ Max.max-variables }
-    ensures { result ≡ moveBy masks.now n taken v }
+    requires { n ≤ Max.max_variables }
+    ensures { result ≡ move_by masks.now n taken v }
 {
     let m = mask_of(masks, v);
     for b in 0..n {
@@ -274,8 +274,8 @@ fn move_on(masks: &[u32], n: usize, taken: u32, v: usize) -> usize
 
 // The variable shown. So many moves from any stuck variable end on a cycle, for there are no more variables.
 fn shown_from(masks: &[u32], n: usize, taken: u32, v: usize) -> usize
-    requires { n ≤ Max.max-variables }
-    ensures { result ≡ shownBy masks.now n taken v }
+    requires { n ≤ Max.max_variables }
+    ensures { result ≡ shown_by masks.now n taken v }
 {
     let mut u = v;
     for i in 0..CYCLE_MOVES {
@@ -286,8 +286,8 @@ fn shown_from(masks: &[u32], n: usize, taken: u32, v: usize) -> usize
 
 // The least number of moves, at least 1, from w back to w. The variable shown is met again within n moves.
 fn moves_back(masks: &[u32], n: usize, taken: u32, w: usize) -> usize
-    requires { n ≤ Max.max-variables }
-    ensures { result ≡ backBy masks.now n taken w }
+    requires { n ≤ Max.max_variables }
+    ensures { result ≡ back_by masks.now n taken w }
 {
     let mut u = w;
     for k in 0..n {
@@ -307,8 +307,8 @@ pub enum Order {
 }
 
 fn find_cycle(masks: &[u32], n: usize, taken: u32) -> Order
-    requires { n ≤ Max.max-variables }
-    ensures { cycleSaid result ≡ cycleBy masks.now n taken }
+    requires { n ≤ Max.max_variables }
+    ensures { cycle_said result ≡ cycle_by masks.now n taken }
 {
     let f = lowest_stuck(n, taken);
     match f {
@@ -323,10 +323,10 @@ fn find_cycle(masks: &[u32], n: usize, taken: u32) -> Order
 
 // Writes the dependency order to the front of `order`, as far as it goes. What stands after it has no meaning.
 pub fn order_tables(words: &[u32], places: &[usize], n: usize, order: &mut [usize]) -> Order
-    requires { (n ≤ Max.max-variables) × (length order.old ≡ Max.max-variables) }
-    ensures result_value { cycleSaid result ≡ noCycleAt words.now places.now n }
-    ensures order_after { take (length (orderAt words.now places.now n)) order.new ≡ orderAt words.now places.now n }
-    ensures order_len { length order.new ≡ Max.max-variables }
+    requires { (n ≤ Max.max_variables) × (length order.old ≡ Max.max_variables) }
+    ensures result_value { cycle_said result ≡ no_cycle_at words.now places.now n }
+    ensures order_after { take (length (order_at words.now places.now n)) order.new ≡ order_at words.now places.now n }
+    ensures order_len { length order.new ≡ Max.max_variables }
 {
     let mut masks = [0u32; MAX_VARIABLES];
     fill_masks(words, places, &mut masks);

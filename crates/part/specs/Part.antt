@@ -1,10 +1,10 @@
 -- Where the part of a table starts and ends.
 use Rattle.std.specs.Prelude.{ℕ, suc, ◌+◌, List, length}
-use Rattle.meaning.specs.Searches.{least, orElse}
-use Rattle.meaning.specs.Calls.{isTableOf, partLength}
+use Rattle.meaning.specs.Searches.{least, or_else}
+use Rattle.meaning.specs.Calls.{is_table_of, part_length}
 
-unfoldable pub startAt : List ℕ → ℕ → ℕ
-startAt ws v = orElse (least (isTableOf ws v) (length ws)) (length ws)
+unfoldable pub start_at : List ℕ → ℕ → ℕ
+start_at ws v = or_else (least (is_table_of ws v) (length ws)) (length ws)
 
-unfoldable pub endAt : List ℕ → ℕ → ℕ
-endAt ws i = suc i + partLength ws i
+unfoldable pub end_at : List ℕ → ℕ → ℕ
+end_at ws i = suc i + part_length ws i

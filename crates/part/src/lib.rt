@@ -2,21 +2,21 @@
 #![tactic(auto)]
 
 ghost use Rattle.std.specs.Prelude.{◌≡◌, ◌+◌, ◌<◌, length};
-ghost use Rattle.meaning.specs.Calls.{isTableOf, endsTable};
-ghost use Rattle.part.specs.Part.{startAt, endAt};
+ghost use Rattle.meaning.specs.Calls.{is_table_of, ends_table};
+ghost use Rattle.part.specs.Part.{start_at, end_at};
 
 use index::word_at;
 use word::{ASSERTION, TABLE, defined, kind};
 
 fn is_table(words: &[u32], variable: u32, i: usize) -> bool
-    ensures { result ≡ isTableOf words.now variable i }
+    ensures { result ≡ is_table_of words.now variable i }
 {
     let w = word_at(words, i);
     (kind(w) == TABLE) & (defined(w) == variable)
 }
 
 fn ends_table(words: &[u32], i: usize) -> bool
-    ensures { result ≡ endsTable words.now i }
+    ensures { result ≡ ends_table words.now i }
 {
     let k = kind(word_at(words, i));
     (k == TABLE) | (k == ASSERTION)
@@ -24,7 +24,7 @@ fn ends_table(words: &[u32], i: usize) -> bool
 
 // The place of the table word of a variable, or the number of words.
 pub fn part_start(words: &[u32], variable: u32) -> usize
-    ensures { result ≡ startAt words.now variable }
+    ensures { result ≡ start_at words.now variable }
 {
     for i in 0..words.len() {
         if is_table(words, variable, i) {
@@ -37,7 +37,7 @@ pub fn part_start(words: &[u32], variable: u32) -> usize
 // The place after the table whose table word stands at `start`.
 pub fn part_end(words: &[u32], start: usize) -> usize
     requires { start < length words.now }
-    ensures { result ≡ endAt words.now start }
+    ensures { result ≡ end_at words.now start }
 {
     for i in start + 1..words.len() {
         if ends_table(words, i) {

@@ -13,114 +13,114 @@ use Rattle.word.specs.Fields as W
 use Rattle.word.specs.Limits as Max
 use Rattle.meaning.specs.Answers.{fine, stop}
 use Rattle.meaning.specs.Syntax.{Variable}
-use Rattle.meaning.specs.Reading.{word, variableOk, readVariables}
+use Rattle.meaning.specs.Reading.{word, variable_ok, read_variables}
 use Rattle.theory.specs.Loops.{left}
-use Rattle.index.specs.Places.{place-count, headOf, variablesTo}
-use Rattle.index.proofs.Laws.{variables-same}
+use Rattle.index.specs.Places.{place_count, head_of, variables_to}
+use Rattle.index.proofs.Laws.{variables_same}
 use Rattle.reader.specs.declared.Words.TheVariants.{Read, Wrong}
 use Rattle.reader.specs.Variables.{NoTables, VariablesAs}
-use Rattle.reader.specs.Typed.{noPlaces}
+use Rattle.reader.specs.Typed.{no_places}
 
 -- ---- the places as they come, and with one more
-pub places-long : (ps : List ℕ) → ps ≡ noPlaces → length ps ≡ place-count
-places-long ps e = rw e
+pub places_long : (ps : List ℕ) → ps ≡ no_places → length ps ≡ place_count
+places_long ps e = rw e
 
-pub places-none : (ps : List ℕ) → ps ≡ noPlaces → NoTables ps
+pub places_none : (ps : List ℕ) → ps ≡ no_places → NoTables ps
 unfolding NoTables
-places-none ps e v h = let z : ℕ = 0 in rw e (get_or-replicate place-count v z z (let l : v < place-count = omega arith in l))
+places_none ps e v h = let z : ℕ = 0 in rw e (get_or-replicate place_count v z z (let l : v < place_count = omega arith in l))
 
-pub no-tables-on : (ps : List ℕ) (i x : ℕ) → NoTables ps → NoTables (set ps (Max.max-variables + i) x)
+pub no_tables_on : (ps : List ℕ) (i x : ℕ) → NoTables ps → NoTables (set ps (Max.max_variables + i) x)
 unfolding NoTables
-no-tables-on ps i x h v l = get_or-set_other ps (Max.max-variables + i) v x 0 (λ e. (let z : ⊥ = omega arith in z)) ∙ h v l
+no_tables_on ps i x h v l = get_or-set_other ps (Max.max_variables + i) v x 0 (λ e. (let z : ⊥ = omega arith in z)) ∙ h v l
 
 -- the place of variable i's word is written, that of those before is not seen
-module _ (ws ps : List ℕ) (i : ℕ) (h : i < Max.max-variables) (len : length ps ≡ place-count) where
-  head-written : headOf (set ps (Max.max-variables + i) i) i ≡ i
-  unfolding headOf
-  head-written = get_or-set_same ps (Max.max-variables + i) i 0 (rw len (omega arith))
+module _ (ws ps : List ℕ) (i : ℕ) (h : i < Max.max_variables) (len : length ps ≡ place_count) where
+  head_written : head_of (set ps (Max.max_variables + i) i) i ≡ i
+  unfolding head_of
+  head_written = get_or-set_same ps (Max.max_variables + i) i 0 (rw len (omega arith))
 
-  heads-before : variablesTo ws (set ps (Max.max-variables + i) i) i ≡ variablesTo ws ps i
-  unfolding headOf
-  heads-before =
-      variables-same ws (set ps (Max.max-variables + i) i) ps i
-      (λ v l. get_or-set_other ps (Max.max-variables + i) (Max.max-variables + v) i 0 (λ e. (let z : ⊥ = omega arith in z)))
+  heads_before : variables_to ws (set ps (Max.max_variables + i) i) i ≡ variables_to ws ps i
+  unfolding head_of
+  heads_before =
+      variables_same ws (set ps (Max.max_variables + i) i) ps i
+      (λ v l. get_or-set_other ps (Max.max_variables + i) (Max.max_variables + v) i 0 (λ e. (let z : ⊥ = omega arith in z)))
 
 -- ---- the readings
 module _ (ws : List ℕ) where
-  ended : (l i : ℕ) (vs : List Variable) → eqb (W.kind (word ws i)) 1 ≡ false → readVariables ws l i vs ≡ fine (vs, i)
-  unfolding readVariables
+  ended : (l i : ℕ) (vs : List Variable) → eqb (W.kind (word ws i)) 1 ≡ false → read_variables ws l i vs ≡ fine (vs, i)
+  unfolding read_variables
   ended zero i vs e = rw e
   ended (suc l) i vs e = rw e
 
-  out-of-range : (l i : ℕ) (vs : List Variable) → eqb (W.kind (word ws i)) 1 ≡ true → variableOk (word ws i) ≡ false
-      → readVariables ws (suc l) i vs ≡ stop 3 i
-  unfolding readVariables
-  out-of-range l i vs e f = rw (e, f)
+  out_of_range : (l i : ℕ) (vs : List Variable) → eqb (W.kind (word ws i)) 1 ≡ true → variable_ok (word ws i) ≡ false
+      → read_variables ws (suc l) i vs ≡ stop 3 i
+  unfolding read_variables
+  out_of_range l i vs e f = rw (e, f)
 
-  one-more : (ps : List ℕ) (l i : ℕ) → i < Max.max-variables → length ps ≡ place-count → eqb (W.kind (word ws i)) 1 ≡ true
-      → variableOk (word ws i) ≡ true
-      → readVariables ws (suc l) i (variablesTo ws ps i)
-      ≡ readVariables ws l (suc i) (variablesTo ws (set ps (Max.max-variables + i) i) (suc i))
-  unfolding readVariables variablesTo
-  one-more ps l i h len e f = rw (e, f, heads-before ws ps i h len, head-written ws ps i h len)
+  one_more : (ps : List ℕ) (l i : ℕ) → i < Max.max_variables → length ps ≡ place_count → eqb (W.kind (word ws i)) 1 ≡ true
+      → variable_ok (word ws i) ≡ true
+      → read_variables ws (suc l) i (variables_to ws ps i)
+      ≡ read_variables ws l (suc i) (variables_to ws (set ps (Max.max_variables + i) i) (suc i))
+  unfolding read_variables variables_to
+  one_more ps l i h len e f = rw (e, f, heads_before ws ps i h len, head_written ws ps i h len)
 
-  one-over : (i : ℕ) (vs : List Variable) → eqb (W.kind (word ws i)) 1 ≡ true → readVariables ws 0 i vs ≡ stop 4 i
-  unfolding readVariables
-  one-over i vs e = rw e
+  one_over : (i : ℕ) (vs : List Variable) → eqb (W.kind (word ws i)) 1 ≡ true → read_variables ws 0 i vs ≡ stop 4 i
+  unfolding read_variables
+  one_over i vs e = rw e
 
   module _ (ps : List ℕ) (i : ℕ)
-      (inv : readVariables ws (Max.max-variables - i) i (variablesTo ws ps i) ≡ readVariables ws Max.max-variables 0 []) where
-    pub variables-end : (w k : ℕ) → i ≤ Max.max-variables → length ps ≡ place-count → NoTables ps → w ≡ word ws i → k ≡ W.kind w
+      (inv : read_variables ws (Max.max_variables - i) i (variables_to ws ps i) ≡ read_variables ws Max.max_variables 0 []) where
+    pub variables_end : (w k : ℕ) → i ≤ Max.max_variables → length ps ≡ place_count → NoTables ps → w ≡ word ws i → k ≡ W.kind w
         → (k ≡ 1 → ⊥) → VariablesAs ws ps (Read i i)
     unfolding VariablesAs
-    variables-end w k h len none ew ek n = record {
-      variables-read = sym inv ∙ ended (Max.max-variables - i) i (variablesTo ws ps i) (rw (← ew, ← ek) (ne_eqb k 1 n));
+    variables_end w k h len none ew ek n = record {
+      variables_read = sym inv ∙ ended (Max.max_variables - i) i (variables_to ws ps i) (rw (← ew, ← ek) (ne_eqb k 1 n));
       few = h;
       long = len;
-      no-tables = none;
+      no_tables = none;
     }
 
-    module _ (w k : ℕ) (b : Bool) (h : i < Max.max-variables) (ew : w ≡ word ws i) (ek : k ≡ W.kind w) (e1 : k ≡ 1)
-        (eb : b ≡ variableOk w) where
-      pub variables-bad : not b ≡ true → VariablesAs ws ps (Wrong 3 i)
+    module _ (w k : ℕ) (b : Bool) (h : i < Max.max_variables) (ew : w ≡ word ws i) (ek : k ≡ W.kind w) (e1 : k ≡ 1)
+        (eb : b ≡ variable_ok w) where
+      pub variables_bad : not b ≡ true → VariablesAs ws ps (Wrong 3 i)
       unfolding VariablesAs
-      variables-bad n =
-          sym (rw (left Max.max-variables i h) at inv)
-          ∙ out-of-range (Max.max-variables - (i + 1)) i (variablesTo ws ps i) (rw (← ew, ← ek) (eq-eqb k 1 e1)) (rw (← ew, ← eb) (not-true b n))
+      variables_bad n =
+          sym (rw (left Max.max_variables i h) at inv)
+          ∙ out_of_range (Max.max_variables - (i + 1)) i (variables_to ws ps i) (rw (← ew, ← ek) (eq-eqb k 1 e1)) (rw (← ew, ← eb) (not-true b n))
 
-      pub variables-on : length ps ≡ place-count → not b ≡ false
-          → readVariables ws (Max.max-variables - (i + 1)) (i + 1) (variablesTo ws (set ps (Max.max-variables + i) i) (i + 1))
-          ≡ readVariables ws Max.max-variables 0 []
-      variables-on len n =
+      pub variables_on : length ps ≡ place_count → not b ≡ false
+          → read_variables ws (Max.max_variables - (i + 1)) (i + 1) (variables_to ws (set ps (Max.max_variables + i) i) (i + 1))
+          ≡ read_variables ws Max.max_variables 0 []
+      variables_on len n =
           rw (add-one i)
-          (sym (one-more ps (Max.max-variables - suc i) i h len (rw (← ew, ← ek) (eq-eqb k 1 e1)) (rw (← ew, ← eb) (not-false b n)))
-          ∙ (rw (left Max.max-variables i h, add-one i) at inv))
+          (sym (one_more ps (Max.max_variables - suc i) i h len (rw (← ew, ← ek) (eq-eqb k 1 e1)) (rw (← ew, ← eb) (not-false b n)))
+          ∙ (rw (left Max.max_variables i h, add-one i) at inv))
 
-    module _ (w k : ℕ) (most : i ≤ Max.max-variables) (all : Max.max-variables ≤ i) (ew : w ≡ word ws Max.max-variables) (ek : k ≡ W.kind w) where
-      pub variables-over : k ≡ 1 → VariablesAs ws ps (Wrong 4 Max.max-variables)
+    module _ (w k : ℕ) (most : i ≤ Max.max_variables) (all : Max.max_variables ≤ i) (ew : w ≡ word ws Max.max_variables) (ek : k ≡ W.kind w) where
+      pub variables_over : k ≡ 1 → VariablesAs ws ps (Wrong 4 Max.max_variables)
       unfolding VariablesAs
-      variables-over e1 =
-          let e : i ≡ Max.max-variables = omega arith in
-          sym (rw e at inv) ∙ one-over Max.max-variables (variablesTo ws ps Max.max-variables) (rw (← ew, ← ek) (eq-eqb k 1 e1))
+      variables_over e1 =
+          let e : i ≡ Max.max_variables = omega arith in
+          sym (rw e at inv) ∙ one_over Max.max_variables (variables_to ws ps Max.max_variables) (rw (← ew, ← ek) (eq-eqb k 1 e1))
 
-      pub variables-all : length ps ≡ place-count → NoTables ps → (k ≡ 1 → ⊥)
-          → VariablesAs ws ps (Read Max.max-variables Max.max-variables)
+      pub variables_all : length ps ≡ place_count → NoTables ps → (k ≡ 1 → ⊥)
+          → VariablesAs ws ps (Read Max.max_variables Max.max_variables)
       unfolding VariablesAs
-      variables-all len none n =
-          let e : i ≡ Max.max-variables = omega arith in
+      variables_all len none n =
+          let e : i ≡ Max.max_variables = omega arith in
           record {
-            variables-read = sym (rw e at inv) ∙ ended 0 Max.max-variables (variablesTo ws ps Max.max-variables) (rw (← ew, ← ek) (ne_eqb k 1 n));
+            variables_read = sym (rw e at inv) ∙ ended 0 Max.max_variables (variables_to ws ps Max.max_variables) (rw (← ew, ← ek) (ne_eqb k 1 n));
             few = omega arith;
             long = len;
-            no-tables = none;
+            no_tables = none;
           }
 
 -- ---- what the answer says
 module _ (ws ps : List ℕ) (n i : ℕ) (v : _) (h : VariablesAs ws ps v) (e : v ≡ Read n i) where
-  pub variables-few : n ≤ Max.max-variables
+  pub variables_few : n ≤ Max.max_variables
   unfolding VariablesAs
-  variables-few = (rw e at h).few
+  variables_few = (rw e at h).few
 
-  pub variables-long : length ps ≡ place-count
+  pub variables_long : length ps ≡ place_count
   unfolding VariablesAs
-  variables-long = (rw e at h).long
+  variables_long = (rw e at h).long

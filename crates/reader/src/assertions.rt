@@ -2,7 +2,7 @@
 ghost use Rattle.std.specs.Prelude.{◌≡◌};
 ghost use Rattle.word.specs.Limits as Max;
 ghost use Rattle.meaning.specs.Reading as R;
-ghost use Rattle.index.specs.Places.{variablesTo, reach};
+ghost use Rattle.index.specs.Places.{variables_to, reach};
 
 use crate::formulas::read_condition;
 use crate::tests::{fault, fits_kind};
@@ -11,7 +11,7 @@ use word::{ASSERTION, MAX_ASSERTIONS, MAX_DEPTH, OF_STATES, sort};
 
 // One assertion; `left` of them may still stand, this one included.
 fn read_assertion(words: &[u32], places: &[usize], n: usize, left: usize, at: usize) -> Reached
-    ensures { result ≡ reach (R.readAssertion words.now (variablesTo words.now places.now n) left at) }
+    ensures { result ≡ reach (R.read_assertion words.now (variables_to words.now places.now n) left at) }
 {
     if words.len() <= at {
         return Reached::Refused(2, at);
@@ -28,7 +28,7 @@ fn read_assertion(words: &[u32], places: &[usize], n: usize, left: usize, at: us
 
 // The assertions from `at` on. One too many is read with none left, which refuses it.
 pub fn read_assertions(words: &[u32], places: &[usize], n: usize, at: usize) -> Reached
-    ensures { result ≡ reach (R.readAssertions words.now (variablesTo words.now places.now n) Max.max-assertions at) }
+    ensures { result ≡ reach (R.read_assertions words.now (variables_to words.now places.now n) Max.max_assertions at) }
 {
     let mut on = at;
     for i in 0..MAX_ASSERTIONS {

@@ -4,15 +4,15 @@
 // would be kept and copied at every word.
 ghost use Rattle.std.specs.Prelude.{◌≡◌};
 ghost use Rattle.meaning.specs.Reading as R;
-ghost use Rattle.index.specs.Places.{variablesTo, reach};
-ghost use Rattle.reader.specs.Formulas.{changeReach};
+ghost use Rattle.index.specs.Places.{variables_to, reach};
+ghost use Rattle.reader.specs.Formulas.{change_reach};
 
 use crate::tests::{fits_condition, fits_event, test_ok, within};
 use index::{Reached, word_at};
 use word::{BECOMES_FALSE, BECOMES_TRUE, OR, TEST, kind, operands, sort, truth};
 
 pub fn read_condition(words: &[u32], places: &[usize], n: usize, at: usize, left: usize) -> Reached
-    ensures { result ≡ reach (R.readCondition words.now (variablesTo words.now places.now n) left at) }
+    ensures { result ≡ reach (R.read_condition words.now (variables_to words.now places.now n) left at) }
 {
     if words.len() <= at {
         return Reached::Refused(2, at);
@@ -49,7 +49,7 @@ pub fn read_condition(words: &[u32], places: &[usize], n: usize, at: usize, left
 
 // The two conditions c and d after a change word.
 pub fn read_change(words: &[u32], places: &[usize], n: usize, at: usize, left: usize) -> Reached
-    ensures { result ≡ changeReach words.now (variablesTo words.now places.now n) left at }
+    ensures { result ≡ change_reach words.now (variables_to words.now places.now n) left at }
 {
     let first = read_condition(words, places, n, at, left);
     match first {
@@ -59,7 +59,7 @@ pub fn read_change(words: &[u32], places: &[usize], n: usize, at: usize, left: u
 }
 
 pub fn read_event(words: &[u32], places: &[usize], n: usize, at: usize, left: usize) -> Reached
-    ensures { result ≡ reach (R.readEvent words.now (variablesTo words.now places.now n) left at) }
+    ensures { result ≡ reach (R.read_event words.now (variables_to words.now places.now n) left at) }
 {
     if words.len() <= at {
         return Reached::Refused(2, at);

@@ -1,8 +1,8 @@
 // Rows with their formulas, in the table for v of type t that reads class m.
 ghost use Rattle.std.specs.Prelude.{◌≡◌};
 ghost use Rattle.word.specs.Limits as Max;
-ghost use Rattle.index.specs.Places.{variablesTo};
-ghost use Rattle.reader.specs.Formulas.{formulaReach, rowReach, rowsReach};
+ghost use Rattle.index.specs.Places.{variables_to};
+ghost use Rattle.reader.specs.Formulas.{formula_reach, row_reach, rows_reach};
 
 use crate::formulas::{read_condition, read_event};
 use crate::tests::{fault, fits_kind, row_ok};
@@ -11,7 +11,7 @@ use word::{CONDITION_TABLE, MAX_DEPTH, MAX_ROWS, ROW, kind};
 
 // The formula of a row.
 fn read_formula(words: &[u32], places: &[usize], n: usize, t: u32, at: usize) -> Reached
-    ensures { result ≡ formulaReach words.now (variablesTo words.now places.now n) t at }
+    ensures { result ≡ formula_reach words.now (variables_to words.now places.now n) t at }
 {
     if t == CONDITION_TABLE {
         read_condition(words, places, n, at, MAX_DEPTH)
@@ -31,7 +31,7 @@ fn read_row(
     left: usize,
     at: usize,
 ) -> Reached
-    ensures { result ≡ rowReach words.now (variablesTo words.now places.now n) t v m left at }
+    ensures { result ≡ row_reach words.now (variables_to words.now places.now n) t v m left at }
 {
     if words.len() <= at {
         return Reached::Refused(2, at);
@@ -56,7 +56,7 @@ pub fn read_rows(
     m: usize,
     at: usize,
 ) -> Reached
-    ensures { result ≡ rowsReach words.now (variablesTo words.now places.now n) t v m Max.max-rows at }
+    ensures { result ≡ rows_reach words.now (variables_to words.now places.now n) t v m Max.max_rows at }
 {
     let mut on = at;
     for i in 0..MAX_ROWS {

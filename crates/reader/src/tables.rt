@@ -1,8 +1,8 @@
 // Tables with their rows.
 ghost use Rattle.std.specs.Prelude.{◌≡◌, ◌≤◌, length};
 ghost use Rattle.word.specs.Limits as Max;
-ghost use Rattle.index.specs.Places.{place-count, variablesTo, reach, told};
-ghost use Rattle.reader.specs.Tables.{nextPlace, readPlaces};
+ghost use Rattle.index.specs.Places.{place_count, variables_to, reach, told};
+ghost use Rattle.reader.specs.Tables.{next_place, read_places};
 
 use crate::rows::read_rows;
 use crate::tests::{fault, fits_kind, table_fits, table_ok};
@@ -12,7 +12,7 @@ use word::{TABLE, class_read, defined, kind, sort};
 // A table with its rows, behind one for variable `before` (0 for none: no variable is lower). `places` has, by variable, the place of the
 // first row of each table so far, 0 for none.
 fn read_table(words: &[u32], places: &[usize], n: usize, at: usize, before: usize) -> Reached
-    ensures { result ≡ reach (nextPlace words.now (variablesTo words.now places.now n) at places.now before) }
+    ensures { result ≡ reach (next_place words.now (variables_to words.now places.now n) at places.now before) }
 {
     if words.len() <= at {
         return Reached::Refused(2, at);
@@ -38,9 +38,9 @@ fn read_table(words: &[u32], places: &[usize], n: usize, at: usize, before: usiz
 // The tables from `at` on, in rising number of their variables. The place of each one's first row goes to the entry of the variable that it
 // defines. A variable has one table, so that there are n at most: one too many is refused for what is wrong with it, else by 5.
 pub fn read_tables(words: &[u32], places: &mut [usize], n: usize, at: usize) -> Reached
-    requires { (length places.old ≡ place-count) × (n ≤ Max.max-variables) }
-    ensures places_after { told result places.new ≡ readPlaces words.now (variablesTo words.now places.old n) n at places.old 0 }
-    ensures n_unchanged { variablesTo words.now places.new n ≡ variablesTo words.now places.old n }
+    requires { (length places.old ≡ place_count) × (n ≤ Max.max_variables) }
+    ensures places_after { told result places.new ≡ read_places words.now (variables_to words.now places.old n) n at places.old 0 }
+    ensures n_unchanged { variables_to words.now places.new n ≡ variables_to words.now places.old n }
 {
     let mut on = at;
     let mut before = 0;

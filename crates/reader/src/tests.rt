@@ -2,8 +2,8 @@
 ghost use Rattle.std.specs.Prelude.{◌≡◌, [], ◌∷◌};
 ghost use Rattle.meaning.specs.Searches as S;
 ghost use Rattle.meaning.specs.Reading as R;
-ghost use Rattle.index.specs.Places.{variablesTo};
-ghost use Rattle.reader.specs.Formulas.{faultOf};
+ghost use Rattle.index.specs.Places.{variables_to};
+ghost use Rattle.reader.specs.Formulas.{fault_of};
 
 use index::{class_of, size_of, word_at};
 use word::{
@@ -29,7 +29,7 @@ pub fn fits_kind(w: u32, k: u32) -> bool
 
 // Has the word a kind that a condition starts with, and are its spare bits zero?
 pub fn fits_condition(w: u32) -> bool
-    ensures { result ≡ R.fits R.conditionKinds w }
+    ensures { result ≡ R.fits R.condition_kinds w }
 {
     let k = kind(w);
     let clear = spare_clear(w);
@@ -37,7 +37,7 @@ pub fn fits_condition(w: u32) -> bool
 }
 
 pub fn fits_event(w: u32) -> bool
-    ensures { result ≡ R.fits R.eventKinds w }
+    ensures { result ≡ R.fits R.event_kinds w }
 {
     let k = kind(w);
     let clear = spare_clear(w);
@@ -47,7 +47,7 @@ pub fn fits_event(w: u32) -> bool
 // The number of a word's refusal, 0 for none. In this order: does it fit its place (2), is there room for it (4), are its fields in
 // range (3), does it suit its variable (5)?
 pub fn fault(fits: bool, room: bool, ranged: bool, suited: bool) -> u32
-    ensures { result ≡ faultOf fits room ranged suited }
+    ensures { result ≡ fault_of fits room ranged suited }
 {
     if !fits {
         return 2;
@@ -66,7 +66,7 @@ pub fn fault(fits: bool, room: bool, ranged: bool, suited: bool) -> u32
 
 // Are the fields of a variable word in range? A mode class has one value less, as 255 stands for every mode.
 pub fn variable_ok(w: u32) -> bool
-    ensures { result ≡ R.variableOk w }
+    ensures { result ≡ R.variable_ok w }
 {
     let class = sort(w);
     let n = size(w);
@@ -78,7 +78,7 @@ pub fn variable_ok(w: u32) -> bool
 
 // Are the fields of a test word in range?
 pub fn test_ok(words: &[u32], places: &[usize], n: usize, w: u32) -> bool
-    ensures { result ≡ R.testOk (variablesTo words.now places.now n) w }
+    ensures { result ≡ R.test_ok (variables_to words.now places.now n) w }
 {
     let v = variable(w) as usize;
     let how = relation(w);
@@ -89,7 +89,7 @@ pub fn test_ok(words: &[u32], places: &[usize], n: usize, w: u32) -> bool
 
 // Are the fields of a row word in range, in the table for v that reads class m?
 pub fn row_ok(words: &[u32], places: &[usize], n: usize, v: usize, m: usize, w: u32) -> bool
-    ensures { result ≡ R.rowOk (variablesTo words.now places.now n) v m w }
+    ensures { result ≡ R.row_ok (variables_to words.now places.now n) v m w }
 {
     let r = mode(w);
     let k = value(w);
@@ -100,7 +100,7 @@ pub fn row_ok(words: &[u32], places: &[usize], n: usize, v: usize, m: usize, w: 
 
 // Are the fields of the table word at `at` in range?
 pub fn table_ok(words: &[u32], places: &[usize], n: usize, at: usize) -> bool
-    ensures { result ≡ R.tableOk (variablesTo words.now places.now n) (R.word words.now at) }
+    ensures { result ≡ R.table_ok (variables_to words.now places.now n) (R.word words.now at) }
 {
     let w = word_at(words, at);
     let known = within(MODE_TABLE, CONDITION_TABLE, sort(w));
@@ -111,7 +111,7 @@ pub fn table_ok(words: &[u32], places: &[usize], n: usize, at: usize) -> bool
 
 // Do its type and the class that it reads suit the variable that it defines?
 pub fn table_fits(words: &[u32], places: &[usize], n: usize, at: usize) -> bool
-    ensures { result ≡ R.tableFits (variablesTo words.now places.now n) (R.word words.now at) }
+    ensures { result ≡ R.table_fits (variables_to words.now places.now n) (R.word words.now at) }
 {
     let w = word_at(words, at);
     let v = defined(w) as usize;

@@ -1,7 +1,7 @@
 // The variables at the front. Only this knows where their words stand.
 ghost use Rattle.std.specs.Prelude.{◌≡◌};
 ghost use Rattle.reader.specs.Variables.{VariablesAs};
-ghost use Rattle.reader.specs.Typed.{noPlaces};
+ghost use Rattle.reader.specs.Typed.{no_places};
 
 use crate::Words;
 use crate::tests::variable_ok;
@@ -11,7 +11,7 @@ use word::{MAX_VARIABLES, VARIABLE, kind};
 // The number of variables and the place after them. Each bit of a variable word is named, so that none is refused by 2; one too many is
 // refused by 4, whatever its fields are. The place of each variable's word goes behind the places of tables.
 pub fn read_variables(words: &[u32], places: &mut [usize]) -> Words
-    requires { places.old ≡ noPlaces }
+    requires { places.old ≡ no_places }
     ensures { VariablesAs words.now places.new result }
 {
     for i in 0..MAX_VARIABLES {

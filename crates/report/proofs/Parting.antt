@@ -12,32 +12,32 @@ use lib.Seq.{take_all}
 use Rattle.word.specs.Fields as W
 use Rattle.meaning.specs.Searches.{least}
 use Rattle.meaning.specs.Reading.{word}
-use Rattle.meaning.specs.Program.{firstEvent}
-use Rattle.theory.specs.Found.{least-on, least-found, least-none}
-use Rattle.report.specs.Input.{isEvent}
+use Rattle.meaning.specs.Program.{first_event}
+use Rattle.theory.specs.Found.{least_on, least_found, least_none}
+use Rattle.report.specs.Input.{is_event}
 
-pub is-event-is : (ws : List ℕ) (i w k : ℕ) → w ≡ word ws i → k ≡ W.kind w → eqb k 11 ≡ isEvent ws i
-unfolding isEvent
-is-event-is ws i w k ew ek = rw (ek, ew)
+pub is_event_is : (ws : List ℕ) (i w k : ℕ) → w ≡ word ws i → k ≡ W.kind w → eqb k 11 ≡ is_event ws i
+unfolding is_event
+is_event_is ws i w k ew ek = rw (ek, ew)
 
-module _ (ws : List ℕ) (i : ℕ) (inv : least (isEvent ws) i ≡ none) where
-  pub event-here : (b : Bool) → i < length ws → b ≡ isEvent ws i → b ≡ true → i ≡ firstEvent ws
-  unfolding firstEvent isEvent
-  event-here b h eb t = sym (least-found (isEvent ws) (length ws) i h inv (sym eb ∙ t))
+module _ (ws : List ℕ) (i : ℕ) (inv : least (is_event ws) i ≡ none) where
+  pub event_here : (b : Bool) → i < length ws → b ≡ is_event ws i → b ≡ true → i ≡ first_event ws
+  unfolding first_event is_event
+  event_here b h eb t = sym (least_found (is_event ws) (length ws) i h inv (sym eb ∙ t))
 
-  pub event-on : (b : Bool) → b ≡ isEvent ws i → b ≡ false → least (isEvent ws) (i + 1) ≡ none
-  event-on b eb t = least-on (isEvent ws) i inv (sym eb ∙ t)
+  pub event_on : (b : Bool) → b ≡ is_event ws i → b ≡ false → least (is_event ws) (i + 1) ≡ none
+  event_on b eb t = least_on (is_event ws) i inv (sym eb ∙ t)
 
-  pub event-none : i ≤ length ws → length ws ≤ i → length ws ≡ firstEvent ws
-  unfolding firstEvent isEvent
-  event-none h k = sym (least-none (isEvent ws) (length ws) i h k inv)
+  pub event_none : i ≤ length ws → length ws ≤ i → length ws ≡ first_event ws
+  unfolding first_event is_event
+  event_none h k = sym (least_none (is_event ws) (length ws) i h k inv)
 
 -- ---- the front
-pub front-all : (ws : List ℕ) (n : ℕ) → length ws < n → ws ≡ take n ws
-front-all ws n h = sym (take_all n ws (omega arith))
+pub front_all : (ws : List ℕ) (n : ℕ) → length ws < n → ws ≡ take n ws
+front_all ws n h = sym (take_all n ws (omega arith))
 
-pub front-part : (ws : List ℕ) (n : ℕ) → take (n - 0) (drop 0 ws) ≡ take n ws
-front-part ws n = rw (sub-zero n)
+pub front_part : (ws : List ℕ) (n : ℕ) → take (n - 0) (drop 0 ws) ≡ take n ws
+front_part ws n = rw (sub-zero n)
 
-pub front-few : (ws : List ℕ) (n : ℕ) → length (take (n - 0) (drop 0 ws)) ≤ length ws
-front-few ws n = rw (sub-zero n, length-take n ws) (omega arith)
+pub front_few : (ws : List ℕ) (n : ℕ) → length (take (n - 0) (drop 0 ws)) ≤ length ws
+front_few ws n = rw (sub-zero n, length-take n ws) (omega arith)

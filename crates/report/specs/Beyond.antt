@@ -3,24 +3,24 @@ use Rattle.std.specs.Prelude.{◌≡◌, refl, List, ℕ, ◌+◌, ◌*◌, ◌/
 use Rattle.std.proofs.Common.{arith, take_all, length-take-le, get_or-take, le-leb}
 use Rattle.std.proofs.Math.Decide.{dec_le}
 use Rattle.word.specs.Limits as Max
-use Rattle.meaning.specs.Host.{wordOfBytes}
-use Rattle.meaning.specs.Program.{inputWord, inputWords, programOf}
-use Rattle.theory.specs.Loops.{list-same}
-use Rattle.theory.specs.Numbers.{length-listOf}
+use Rattle.meaning.specs.Host.{word_of_bytes}
+use Rattle.meaning.specs.Program.{input_word, input_words, program_of}
+use Rattle.theory.specs.Loops.{list_same}
+use Rattle.theory.specs.Numbers.{length_list_of}
 
 -- "the first 8,192 only": so many words there are
-pub input-long : (bs : List ℕ) → length (inputWords bs) ≡ min 8192 ((length bs + 3) / 4)
-unfolding inputWords
-input-long bs = length-listOf (inputWord bs) (min 8192 ((length bs + 3) / 4))
+pub input_long : (bs : List ℕ) → length (input_words bs) ≡ min 8192 ((length bs + 3) / 4)
+unfolding input_words
+input_long bs = length_list_of (input_word bs) (min 8192 ((length bs + 3) / 4))
 
 -- bytes of the words that are looked at
-abbrev pub max-input : ℕ
-max-input = Max.max-input-words * 4
+abbrev pub max_input : ℕ
+max_input = Max.max_input_words * 4
 
 -- a word that ends within the first m bytes
-word-same : (bs : List ℕ) (m i : ℕ) → i * 4 + 4 ≤ m → m ≤ length bs → inputWord (take m bs) i ≡ inputWord bs i
-unfolding inputWord wordOfBytes
-word-same bs m i h l =
+word_same : (bs : List ℕ) (m i : ℕ) → i * 4 + 4 ≤ m → m ≤ length bs → input_word (take m bs) i ≡ input_word bs i
+unfolding input_word word_of_bytes
+word_same bs m i h l =
     let a : i * 4 + 4 ≤ length (take m bs) = omega (arith, length-take-le m bs l) in
     let b : i * 4 + 4 ≤ length bs = omega arith in
     rw (
@@ -32,14 +32,14 @@ word-same bs m i h l =
       get_or-take m bs (i * 4 + 3) 0 (omega arith),
     )
 
-words-same : (bs : List ℕ) (m : ℕ) → m ≡ max-input → m ≤ length bs → inputWords (take m bs) ≡ inputWords bs
-unfolding inputWords
-words-same bs m e l =
-    let a : min Max.max-input-words ((length (take m bs) + 3) / 4) ≡ Max.max-input-words = omega (arith, length-take-le m bs l) in
-    let b : min Max.max-input-words ((length bs + 3) / 4) ≡ Max.max-input-words = omega arith in
-    rw (a, b) (list-same (inputWord (take m bs)) (inputWord bs) Max.max-input-words (λ i h. word-same bs m i (omega arith) l))
+words_same : (bs : List ℕ) (m : ℕ) → m ≡ max_input → m ≤ length bs → input_words (take m bs) ≡ input_words bs
+unfolding input_words
+words_same bs m e l =
+    let a : min Max.max_input_words ((length (take m bs) + 3) / 4) ≡ Max.max_input_words = omega (arith, length-take-le m bs l) in
+    let b : min Max.max_input_words ((length bs + 3) / 4) ≡ Max.max_input_words = omega arith in
+    rw (a, b) (list_same (input_word (take m bs)) (input_word bs) Max.max_input_words (λ i h. word_same bs m i (omega arith) l))
 
-pub beyond-ignored : (bs : List ℕ) → programOf (take max-input bs) ≡ programOf bs
-unfolding programOf
-beyond-ignored bs =
-    elim (dec_le (length bs) max-input) [ yes h ↦ rw (take_all max-input bs h) | no h ↦ rw (words-same bs max-input refl (omega arith)) ]
+pub beyond_ignored : (bs : List ℕ) → program_of (take max_input bs) ≡ program_of bs
+unfolding program_of
+beyond_ignored bs =
+    elim (dec_le (length bs) max_input) [ yes h ↦ rw (take_all max_input bs h) | no h ↦ rw (words_same bs max_input refl (omega arith)) ]

@@ -5,8 +5,8 @@ use Rattle.word.specs.Limits as Max
 use Rattle.meaning.specs.Reading.{word}
 
 -- of so many bytes
-abbrev pub wordCount : ℕ → ℕ
-wordCount n = min Max.max-input-words ((n + 3) / 4)
+abbrev pub word_count : ℕ → ℕ
+word_count n = min Max.max_input_words ((n + 3) / 4)
 
-unfoldable pub isEvent : List ℕ → ℕ → Bool
-isEvent ws i = eqb (W.kind (word ws i)) 11
+unfoldable pub is_event : List ℕ → ℕ → Bool
+is_event ws i = eqb (W.kind (word ws i)) 11

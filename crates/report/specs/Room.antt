@@ -3,20 +3,20 @@ use Rattle.std.specs.Prelude.{ℕ, ◌+◌, ◌*◌}
 use Rattle.word.specs.Limits as Max
 
 -- digits of a number of 64 bits
-abbrev pub max-digits : ℕ
-max-digits = 20
+abbrev pub max_digits : ℕ
+max_digits = 20
 
 -- digits of a state, a number of 32 bits
-abbrev pub state-digits : ℕ
-state-digits = 10
+abbrev pub state_digits : ℕ
+state_digits = 10
 
 -- digits of the index, the variable or the value of an event: an index is below 4,096, the others have 8 bits
-abbrev pub small-digits : ℕ
-small-digits = 4
+abbrev pub small_digits : ℕ
+small_digits = 4
 
 -- a blank and a number
 abbrev pub field : ℕ
-field = max-digits + 1
+field = max_digits + 1
 
 -- the longest line of a set: REFUSE, the number of the refusal, six numbers that it carries, a line feed
 abbrev pub line : ℕ
@@ -24,11 +24,11 @@ line = 6 + 7 * field + 1
 
 -- the line of an event: index, variable, value and state, each with a blank or the line feed after it
 abbrev pub event : ℕ
-event = 3 * (small-digits + 1) + (state-digits + 1)
+event = 3 * (small_digits + 1) + (state_digits + 1)
 
 -- a run: its events, and the refusal that ends it
 abbrev pub run : ℕ
-run = Max.max-events * event + line
+run = Max.max_events * event + line
 
 -- the line of the set, and the run
 abbrev pub output : ℕ

@@ -1,9 +1,9 @@
 -- What is printed of the input's words.
 use Rattle.std.specs.Prelude.{List, ℕ, take, drop}
-use Rattle.meaning.specs.Check.{checkOf}
-use Rattle.meaning.specs.Program.{firstEvent, printed}
+use Rattle.meaning.specs.Check.{check_of}
+use Rattle.meaning.specs.Program.{first_event, printed}
 
-unfoldable pub printedOf : List ℕ → List ℕ
-printedOf all =
-    let ws = take (firstEvent all) all in
-    printed ws (drop (firstEvent all) all) (checkOf ws)
+unfoldable pub printed_of : List ℕ → List ℕ
+printed_of all =
+    let ws = take (first_event all) all in
+    printed ws (drop (first_event all) all) (check_of ws)

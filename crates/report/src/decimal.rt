@@ -1,6 +1,6 @@
 // Decimal numbers, put into a buffer from a place on. Each function gives the place after what it put.
 ghost use Rattle.std.specs.Prelude.{◌≡◌, [], ◌∷◌, ℕ, ◌+◌, ◌<◌, ◌≤◌, length};
-ghost use Rattle.meaning.specs.Program.{digitsOf, decimal};
+ghost use Rattle.meaning.specs.Program.{digits_of, decimal};
 ghost use Rattle.report.specs.Room as Room;
 ghost use Rattle.report.specs.Text.{Puts};
 
@@ -25,7 +25,7 @@ pub fn put(out: &mut [u8], at: usize, byte: u8) -> usize
 // At most `left` digits, the highest first: those before the last are put by a call of itself.
 fn put_digits(out: &mut [u8], at: usize, n: u64, left: usize) -> usize
     requires { at + left ≤ length out.old }
-    ensures puts { Puts (digitsOf left n) out.old at out.new result }
+    ensures puts { Puts (digits_of left n) out.old at out.new result }
     ensures upper_bound { result ≤ at + left }
 {
     if left == 0 {
@@ -41,9 +41,9 @@ fn put_digits(out: &mut [u8], at: usize, n: u64, left: usize) -> usize
 }
 
 pub fn put_number(out: &mut [u8], at: usize, n: u64) -> usize
-    requires { at + Room.max-digits ≤ length out.old }
+    requires { at + Room.max_digits ≤ length out.old }
     ensures puts { Puts (decimal n) out.old at out.new result }
-    ensures upper_bound { result ≤ at + Room.max-digits }
+    ensures upper_bound { result ≤ at + Room.max_digits }
 {
     put_digits(out, at, n, MAX_DIGITS)
 }

@@ -9,11 +9,11 @@ mod runs; // the lines of a run
 
 ghost use Rattle.std.specs.Prelude.{◌≡◌, ℕ, ◌≤◌, length, take};
 ghost use Rattle.std.proofs.lemmas.List.Edits.{sets};
-ghost use Rattle.meaning.specs.Check.{checkOf};
-ghost use Rattle.meaning.specs.Program.{printed, programOf};
+ghost use Rattle.meaning.specs.Check.{check_of};
+ghost use Rattle.meaning.specs.Program.{printed, program_of};
 ghost use Rattle.report.specs.Room as Room;
 ghost use Rattle.report.specs.Text.{Puts};
-ghost use Rattle.report.specs.Whole.{printedOf};
+ghost use Rattle.report.specs.Whole.{printed_of};
 
 use crate::decimal::{MAX_DIGITS, SMALL_DIGITS, STATE_DIGITS};
 use crate::lines::{put_pass, put_refusal};
@@ -39,7 +39,7 @@ pub const MAX_OUTPUT: usize = LINE + MAX_EVENTS * EVENT_LINE + LINE;
 // What is printed of a set and its events. "A set that check refuses is not run."
 fn put_set(out: &mut [u8], set: &[u32], events: &[u32]) -> usize
     requires { Room.output ≤ length out.old }
-    ensures puts { Puts (printed set.now events.now (checkOf set.now)) out.old 0 out.new result }
+    ensures puts { Puts (printed set.now events.now (check_of set.now)) out.old 0 out.new result }
     ensures upper_bound { result ≤ Room.output }
 {
     let verdict = scr::check(set);
@@ -55,7 +55,7 @@ fn put_set(out: &mut [u8], set: &[u32], events: &[u32]) -> usize
 // "Words from the first of kind 11 on are events."
 fn put_words(out: &mut [u8], words: &[u32]) -> usize
     requires { Room.output ≤ length out.old }
-    ensures puts { Puts (printedOf words.now) out.old 0 out.new result }
+    ensures puts { Puts (printed_of words.now) out.old 0 out.new result }
     ensures upper_bound { result ≤ Room.output }
 {
     let k = parts::first_event(words);
@@ -65,8 +65,8 @@ fn put_words(out: &mut [u8], words: &[u32]) -> usize
 // What the program prints, at the front of `out`, whose other bytes stay as they were; how many bytes it is.
 pub fn report(bytes: &[u8], out: &mut [u8]) -> usize
     requires { Room.output ≤ length out.old }
-    ensures out_after { out.new ≡ sets out.old 0 (programOf bytes.now) }
-    ensures value { result ≡ length (programOf bytes.now) }
+    ensures out_after { out.new ≡ sets out.old 0 (program_of bytes.now) }
+    ensures value { result ≡ length (program_of bytes.now) }
     ensures upper_bound { (result ≤ length out.new) × (result ≡ length (take result out.new)) }
 {
     let mut words = [0u32; MAX_INPUT_WORDS];

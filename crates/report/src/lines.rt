@@ -4,9 +4,9 @@ ghost use Rattle.std.specs.Prelude.{◌≡◌, ◌∷◌, ℕ, ◌+◌, ◌*◌,
 ghost use Rattle.word.specs.Limits as Max;
 ghost use Rattle.meaning.specs.Reading.{word};
 ghost use Rattle.meaning.specs.Program as P;
-ghost use Rattle.scr.specs.Answers.{refusalSays};
+ghost use Rattle.scr.specs.Answers.{refusal_says};
 ghost use Rattle.report.specs.Text.{Puts};
-ghost use Rattle.report.specs.Lines.{countsOf};
+ghost use Rattle.report.specs.Lines.{counts_of};
 ghost use Rattle.report.specs.Room as Room;
 
 use crate::decimal::{put, put_number};
@@ -52,7 +52,7 @@ fn put_fields(out: &mut [u8], at: usize, numbers: &[u64]) -> usize
 
 pub fn put_pass(out: &mut [u8], at: usize, c: Counts) -> usize
     requires { at + Room.line ≤ length out.old }
-    ensures puts { Puts (P.passLine (countsOf c)) out.old at out.new result }
+    ensures puts { Puts (P.pass_line (counts_of c)) out.old at out.new result }
     ensures upper_bound { result ≤ at + Room.line }
 {
     let numbers = [c.states as u64, c.steps, c.assertions as u64];
@@ -63,7 +63,7 @@ pub fn put_pass(out: &mut [u8], at: usize, c: Counts) -> usize
 // The number of the refusal, then what it carries.
 pub fn put_refusal(out: &mut [u8], at: usize, q: Refusal) -> usize
     requires { at + Room.line ≤ length out.old }
-    ensures puts { Puts (P.refuseLine (refusalSays q).0 (refusalSays q).1) out.old at out.new result }
+    ensures puts { Puts (P.refuse_line (refusal_says q).0 (refusal_says q).1) out.old at out.new result }
     ensures upper_bound { result ≤ at + Room.line }
 {
     let t = tell(q);
@@ -76,8 +76,8 @@ pub fn put_refusal(out: &mut [u8], at: usize, q: Refusal) -> usize
 
 // The line of event i, after which the state is s. There must be room for four numbers of any length, of which it takes less.
 fn put_event(out: &mut [u8], at: usize, events: &[u32], i: usize, s: u32) -> usize
-    requires { (at + Room.line ≤ length out.old) × (i < Max.max-events) }
-    ensures puts { Puts (P.eventLine i (word events.now i) s) out.old at out.new result }
+    requires { (at + Room.line ≤ length out.old) × (i < Max.max_events) }
+    ensures puts { Puts (P.event_line i (word events.now i) s) out.old at out.new result }
     ensures upper_bound { result ≤ at + Room.event }
 {
     let w = word_at(events, i);
@@ -88,8 +88,8 @@ fn put_event(out: &mut [u8], at: usize, events: &[u32], i: usize, s: u32) -> usi
 
 // A line for each state reached.
 pub fn put_events(out: &mut [u8], at: usize, events: &[u32], states: &[u32]) -> usize
-    requires { (at + length states.now * Room.event + Room.line ≤ length out.old) × (length states.now ≤ Max.max-events) }
-    ensures puts { Puts (P.eventLines 0 events.now states.now) out.old at out.new result }
+    requires { (at + length states.now * Room.event + Room.line ≤ length out.old) × (length states.now ≤ Max.max_events) }
+    ensures puts { Puts (P.event_lines 0 events.now states.now) out.old at out.new result }
     ensures upper_bound { result ≤ at + length states.now * Room.event }
 {
     let mut on = at;

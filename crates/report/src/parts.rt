@@ -1,20 +1,20 @@
 // Parts of lists of words.
 ghost use Rattle.std.specs.Prelude.{◌≡◌, ℕ, ◌≤◌, length, take};
-ghost use Rattle.meaning.specs.Program.{firstEvent};
-ghost use Rattle.report.specs.Input.{isEvent};
+ghost use Rattle.meaning.specs.Program.{first_event};
+ghost use Rattle.report.specs.Input.{is_event};
 
 use index::word_at;
 use word::{INPUT_EVENT, kind};
 
 fn is_event(words: &[u32], i: usize) -> bool
-    ensures { result ≡ isEvent words.now i }
+    ensures { result ≡ is_event words.now i }
 {
     kind(word_at(words, i)) == INPUT_EVENT
 }
 
 // The place of the first word of kind 11, or the number of words.
 pub fn first_event(words: &[u32]) -> usize
-    ensures value { result ≡ firstEvent words.now }
+    ensures value { result ≡ first_event words.now }
     ensures upper_bound { result ≤ length words.now }
 {
     for i in 0..words.len() {

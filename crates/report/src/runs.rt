@@ -1,12 +1,12 @@
 // The lines of a run.
 ghost use Rattle.std.specs.Prelude.{◌≡◌, ℕ, ◌+◌, ◌*◌, ◌≤◌, length};
 ghost use Rattle.word.specs.Limits as Max;
-ghost use Rattle.meaning.specs.Calls.{startOf};
-ghost use Rattle.meaning.specs.Program.{runFromStart};
-ghost use Rattle.scr.specs.Answers.{refusalSays, answerSays};
+ghost use Rattle.meaning.specs.Calls.{start_of};
+ghost use Rattle.meaning.specs.Program.{run_from_start};
+ghost use Rattle.scr.specs.Answers.{refusal_says, answer_says};
 ghost use Rattle.report.specs.Text.{Puts};
 ghost use Rattle.report.specs.Room as Room;
-ghost use Rattle.report.specs.Runs.{Passed, doneBefore, ranLines};
+ghost use Rattle.report.specs.Runs.{Passed, done_before, ran_lines};
 
 use crate::lines::{put_events, put_refusal};
 use crate::parts::front;
@@ -16,7 +16,7 @@ use word::MAX_EVENTS;
 // How many events were done before a refusal, in a run of a set that passes: there only an event word that is not enabled (16) ends a run
 // that has begun, and it carries its index.
 fn done_before(q: Refusal) -> usize
-    ensures { result ≡ doneBefore (refusalSays q).0 (refusalSays q).1 }
+    ensures { result ≡ done_before (refusal_says q).0 (refusal_says q).1 }
 {
     match q {
         Refusal::NotEnabled(i) => i,
@@ -26,8 +26,8 @@ fn done_before(q: Refusal) -> usize
 
 // The lines of a run of a set that passes, by its answer and by the states that it wrote.
 fn put_ran(out: &mut [u8], at: usize, events: &[u32], states: &[u32], answer: Answer) -> usize
-    requires { (at + length states.now * Room.event + Room.line ≤ length out.old) × (length states.now ≤ Max.max-events) }
-    ensures puts { Puts (ranLines events.now states.now (answerSays answer)) out.old at out.new result }
+    requires { (at + length states.now * Room.event + Room.line ≤ length out.old) × (length states.now ≤ Max.max_events) }
+    ensures puts { Puts (ran_lines events.now states.now (answer_says answer)) out.old at out.new result }
     ensures upper_bound { result ≤ at + length states.now * Room.event + Room.line }
 {
     match answer {
@@ -42,7 +42,7 @@ fn put_ran(out: &mut [u8], at: usize, events: &[u32], states: &[u32], answer: An
 // The run from the initial state.
 pub fn put_run(out: &mut [u8], at: usize, set: &[u32], events: &[u32]) -> usize
     requires { (at + Room.run ≤ length out.old) × Passed set.now }
-    ensures puts { Puts (runFromStart set.now events.now (startOf set.now)) out.old at out.new result }
+    ensures puts { Puts (run_from_start set.now events.now (start_of set.now)) out.old at out.new result }
     ensures upper_bound { result ≤ at + Room.run }
 {
     let initial = scr::start(set);

@@ -9,13 +9,13 @@ use borrow.Author.Tests.{not-true, not-false}
 use Rattle.meaning.specs.Answers.{Outcome, ok, refuse, ◌>>=◌}
 use Rattle.meaning.specs.Searches.{least}
 use Rattle.meaning.specs.Syntax.{TableSet}
-use Rattle.meaning.specs.States.{Values, readSet}
-use Rattle.meaning.specs.Steps.{stepOf}
-use Rattle.meaning.specs.Calls.{startOf, valuesOf, lentValues, isTableOf, partFrom, rowsIf, rowsOf}
-use Rattle.meaning.specs.Run.{runReady, ranOf, runOf}
-use Rattle.meaning.specs.Check.{checkOf}
-use Rattle.part.specs.Part.{startAt, endAt}
-use Rattle.part.proofs.Laws.{part-is, part-none}
+use Rattle.meaning.specs.States.{Values, read_set}
+use Rattle.meaning.specs.Steps.{step_of}
+use Rattle.meaning.specs.Calls.{start_of, values_of, lent_values, is_table_of, part_from, rows_if, rows_of}
+use Rattle.meaning.specs.Run.{run_ready, ran_of, run_of}
+use Rattle.meaning.specs.Check.{check_of}
+use Rattle.part.specs.Part.{start_at, end_at}
+use Rattle.part.proofs.Laws.{part_is, part_none}
 use Rattle.scr.specs.declared.Refusal.{Refusal}
 use Rattle.scr.specs.declared.Answer.TheVariants as A
 use Rattle.scr.specs.declared.Verdict.TheVariants as Verdicts
@@ -23,84 +23,84 @@ use Rattle.scr.specs.declared.Count.TheVariants as C
 use Rattle.scr.specs.declared.opening.Index.{Index}
 use Rattle.scr.specs.declared.opening.Reading.{Reading}
 use Rattle.scr.specs.declared.opening.Reading.TheVariants as Readings
-use Rattle.scr.specs.Answers.{refused, answerSays, verdictSays, countSays, countOf}
-use Rattle.scr.specs.Opened.{IndexOf, ReadingAs, OpenedAs, isOk, readsWell}
+use Rattle.scr.specs.Answers.{refused, answer_says, verdict_says, count_says, count_of}
+use Rattle.scr.specs.Opened.{IndexOf, ReadingAs, OpenedAs, is_ok, reads_well}
 
 -- ---- by what the entry begins with
 module _ (ws : List ℕ) (o : Index) (h : OpenedAs ws o) where
-  pub index-of : o.reading ≡ Readings.Set → IndexOf ws o
+  pub index_of : o.reading ≡ Readings.Set → IndexOf ws o
   unfolding OpenedAs ReadingAs
-  index-of e = subst (λ (r : Reading). ReadingAs ws r o) e h
+  index_of e = subst (λ (r : Reading). ReadingAs ws r o) e h
 
   -- a call that begins with the reading is refused as the reading is
   module _ (q : Refusal) (e : o.reading ≡ Readings.Refused q) where
-    unread : readSet ws ≡ refused q
+    unread : read_set ws ≡ refused q
     unfolding OpenedAs ReadingAs
     unread = rw e at h
 
-    refused-first : {B : Type 0} (f : TableSet → Outcome B) → refused q ≡ (readSet ws >>= f)
+    refused_first : {B : Type 0} (f : TableSet → Outcome B) → refused q ≡ (read_set ws >>= f)
     unfolding refused
-    refused-first f = rw unread
+    refused_first f = rw unread
 
-    pub start-refused : answerSays (A.Refused q) ≡ startOf ws
-    unfolding answerSays startOf
-    start-refused = refused-first _
+    pub start_refused : answer_says (A.Refused q) ≡ start_of ws
+    unfolding answer_says start_of
+    start_refused = refused_first _
 
-    pub check-refused : verdictSays (Verdicts.Refused q) ≡ checkOf ws
-    unfolding verdictSays checkOf
-    check-refused = refused-first _
+    pub check_refused : verdict_says (Verdicts.Refused q) ≡ check_of ws
+    unfolding verdict_says check_of
+    check_refused = refused_first _
 
-    pub step-refused : (s w : ℕ) → answerSays (A.Refused q) ≡ stepOf ws s w
-    unfolding answerSays stepOf
-    step-refused s w = refused-first _
+    pub step_refused : (s w : ℕ) → answer_says (A.Refused q) ≡ step_of ws s w
+    unfolding answer_says step_of
+    step_refused s w = refused_first _
 
     module _ (s : ℕ) (es lent : List ℕ) (place : ℕ) where
-      run-first : ranOf ws s es (length lent - place) ≡ record { done = []; last = refused q }
-      unfolding ranOf runReady refused
-      run-first = rw (unread, ranOf)
+      run_first : ran_of ws s es (length lent - place) ≡ record { done = []; last = refused q }
+      unfolding ran_of run_ready refused
+      run_first = rw (unread, ran_of)
 
-      pub run-refused : answerSays (A.Refused q) ≡ (runOf ws s es lent place).answer
-      unfolding answerSays runOf
-      run-refused = rw run-first
+      pub run_refused : answer_says (A.Refused q) ≡ (run_of ws s es lent place).answer
+      unfolding answer_says run_of
+      run_refused = rw run_first
 
-      pub run-kept : lent ≡ (runOf ws s es lent place).lent
-      unfolding runOf
-      run-kept = rw run-first
+      pub run_kept : lent ≡ (run_of ws s es lent place).lent
+      unfolding run_of
+      run_kept = rw run_first
 
     module _ (s room : ℕ) where
-      values-first : refused q ≡ valuesOf ws s room
-      unfolding valuesOf
-      values-first = refused-first _
+      values_first : refused q ≡ values_of ws s room
+      unfolding values_of
+      values_first = refused_first _
 
-      pub values-refused : countSays (C.Refused q) ≡ countOf (valuesOf ws s room)
-      unfolding countSays countOf refused
-      values-refused = ap countOf values-first
+      pub values_refused : count_says (C.Refused q) ≡ count_of (values_of ws s room)
+      unfolding count_says count_of refused
+      values_refused = ap count_of values_first
 
-      pub kept-refused : (out : List ℕ) → out ≡ lentValues (valuesOf ws s room) out
-      unfolding lentValues refused
-      kept-refused out = ap (λ (y : Outcome Values). lentValues y out) values-first
+      pub kept_refused : (out : List ℕ) → out ≡ lent_values (values_of ws s room) out
+      unfolding lent_values refused
+      kept_refused out = ap (λ (y : Outcome Values). lent_values y out) values_first
 
 -- ---- rows
-module _ (ws : List ℕ) (v : ℕ) (b : Bool) (eb : b ≡ readsWell ws) where
-  pub rows-unread : not b ≡ true → [] ≡ rowsOf ws v
-  unfolding rowsOf rowsIf readsWell isOk
-  rows-unread f = go (readSet ws) (sym eb ∙ not-true b f)
+module _ (ws : List ℕ) (v : ℕ) (b : Bool) (eb : b ≡ reads_well ws) where
+  pub rows_unread : not b ≡ true → [] ≡ rows_of ws v
+  unfolding rows_of rows_if reads_well is_ok
+  rows_unread f = go (read_set ws) (sym eb ∙ not-true b f)
     where
-      go : (o : Outcome TableSet) → isOk o ≡ false → [] ≡ rowsIf ws v o
+      go : (o : Outcome TableSet) → is_ok o ≡ false → [] ≡ rows_if ws v o
       go (ok z) e = let x : ◌≡◌ {A = ℕ} 0 1 = cc in (let o : ⊥ = omega arith in absurd o)
       go (refuse n xs) e = refl
 
-  rows-read : not b ≡ false → rowsOf ws v ≡ partFrom ws (least (isTableOf ws v) (length ws))
-  unfolding rowsOf rowsIf readsWell isOk
-  rows-read f = go (readSet ws) (sym eb ∙ not-false b f)
+  rows_read : not b ≡ false → rows_of ws v ≡ part_from ws (least (is_table_of ws v) (length ws))
+  unfolding rows_of rows_if reads_well is_ok
+  rows_read f = go (read_set ws) (sym eb ∙ not-false b f)
     where
-      go : (o : Outcome TableSet) → isOk o ≡ true → rowsIf ws v o ≡ partFrom ws (least (isTableOf ws v) (length ws))
+      go : (o : Outcome TableSet) → is_ok o ≡ true → rows_if ws v o ≡ part_from ws (least (is_table_of ws v) (length ws))
       go (ok z) e = refl
       go (refuse n xs) e = let x : ◌≡◌ {A = ℕ} 0 1 = cc in (let o : ⊥ = omega arith in absurd o)
 
-  module _ (a : ℕ) (f : not b ≡ false) (ea : a ≡ startAt ws v) where
-    pub rows-none : length ws ≤ a → [] ≡ rowsOf ws v
-    rows-none h = part-none ws v a ea h ∙ sym (rows-read f)
+  module _ (a : ℕ) (f : not b ≡ false) (ea : a ≡ start_at ws v) where
+    pub rows_none : length ws ≤ a → [] ≡ rows_of ws v
+    rows_none h = part_none ws v a ea h ∙ sym (rows_read f)
 
-    pub rows-part : (d : ℕ) → a < length ws → d ≡ endAt ws a → take (d - a) (drop a ws) ≡ rowsOf ws v
-    rows-part d h ed = part-is ws v a d ea h ed ∙ sym (rows-read f)
+    pub rows_part : (d : ℕ) → a < length ws → d ≡ end_at ws a → take (d - a) (drop a ws) ≡ rows_of ws v
+    rows_part d h ed = part_is ws v a d ea h ed ∙ sym (rows_read f)

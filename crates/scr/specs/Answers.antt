@@ -12,44 +12,44 @@ use Rattle.scr.specs.declared.Count.{Count}
 use Rattle.scr.specs.declared.Count.TheVariants as C
 
 -- the number of a refusal, and what it carries
-unfoldable pub refusalSays : Refusal → ℕ × List ℕ
-refusalSays (R.Length n) = (1, n ∷ [])
-refusalSays (R.Kind i) = (2, i ∷ [])
-refusalSays (R.Range i) = (3, i ∷ [])
-refusalSays (R.Limit i) = (4, i ∷ [])
-refusalSays (R.Fit i) = (5, i ∷ [])
-refusalSays (R.NoTable v) = (6, v ∷ [])
-refusalSays (R.InitialValue v) = (7, v ∷ [])
-refusalSays (R.States v) = (8, v ∷ [])
-refusalSays (R.Cycle c) = (9, c.variable ∷ c.length ∷ [])
-refusalSays (R.Gap g) = (10, g.side ∷ g.state ∷ g.variable ∷ [])
-refusalSays (R.Overlap o) = (11, o.side ∷ o.state ∷ o.variable ∷ o.first ∷ o.second ∷ [])
-refusalSays (R.StepOverlap o) =
+unfoldable pub refusal_says : Refusal → ℕ × List ℕ
+refusal_says (R.Length n) = (1, n ∷ [])
+refusal_says (R.Kind i) = (2, i ∷ [])
+refusal_says (R.Range i) = (3, i ∷ [])
+refusal_says (R.Limit i) = (4, i ∷ [])
+refusal_says (R.Fit i) = (5, i ∷ [])
+refusal_says (R.NoTable v) = (6, v ∷ [])
+refusal_says (R.InitialValue v) = (7, v ∷ [])
+refusal_says (R.States v) = (8, v ∷ [])
+refusal_says (R.Cycle c) = (9, c.variable ∷ c.length ∷ [])
+refusal_says (R.Gap g) = (10, g.side ∷ g.state ∷ g.variable ∷ [])
+refusal_says (R.Overlap o) = (11, o.side ∷ o.state ∷ o.variable ∷ o.first ∷ o.second ∷ [])
+refusal_says (R.StepOverlap o) =
     (12, o.state ∷ o.input.variable ∷ o.input.value ∷ o.variable ∷ o.first ∷ o.second ∷ [])
-refusalSays (R.FalseInitially j) = (13, j ∷ [])
-refusalSays (R.Broken b) = (14, b.assertion ∷ b.state ∷ b.input.variable ∷ b.input.value ∷ [])
-refusalSays (R.NoState s) = (15, s ∷ [])
-refusalSays (R.NotEnabled i) = (16, i ∷ [])
-refusalSays (R.Room n) = (17, n ∷ [])
-refusalSays (R.Order i) = (21, i ∷ [])
+refusal_says (R.FalseInitially j) = (13, j ∷ [])
+refusal_says (R.Broken b) = (14, b.assertion ∷ b.state ∷ b.input.variable ∷ b.input.value ∷ [])
+refusal_says (R.NoState s) = (15, s ∷ [])
+refusal_says (R.NotEnabled i) = (16, i ∷ [])
+refusal_says (R.Room n) = (17, n ∷ [])
+refusal_says (R.Order i) = (21, i ∷ [])
 
 -- the same as an answer
 unfoldable pub refused : {A : Type 0} → Refusal → Outcome A
-refused r = refuse (refusalSays r).0 (refusalSays r).1
+refused r = refuse (refusal_says r).0 (refusal_says r).1
 
-unfoldable pub answerSays : Answer → Outcome ℕ
-answerSays (A.State s) = ok s
-answerSays (A.Refused r) = refused r
+unfoldable pub answer_says : Answer → Outcome ℕ
+answer_says (A.State s) = ok s
+answer_says (A.Refused r) = refused r
 
-unfoldable pub verdictSays : Verdict → Outcome Counts
-verdictSays (Verdicts.Pass c) = ok (record { states = c.states; steps = c.steps; assertions = c.assertions })
-verdictSays (Verdicts.Refused r) = refused r
+unfoldable pub verdict_says : Verdict → Outcome Counts
+verdict_says (Verdicts.Pass c) = ok (record { states = c.states; steps = c.steps; assertions = c.assertions })
+verdict_says (Verdicts.Refused r) = refused r
 
-unfoldable pub countSays : Count → Outcome ℕ
-countSays (C.Written n) = ok n
-countSays (C.Refused r) = refused r
+unfoldable pub count_says : Count → Outcome ℕ
+count_says (C.Written n) = ok n
+count_says (C.Refused r) = refused r
 
 -- how many values were written, where none is refused
-unfoldable pub countOf : Outcome (List ℕ) → Outcome ℕ
-countOf (ok a) = ok (length a)
-countOf (refuse n xs) = refuse n xs
+unfoldable pub count_of : Outcome (List ℕ) → Outcome ℕ
+count_of (ok a) = ok (length a)
+count_of (refuse n xs) = refuse n xs

@@ -2,9 +2,9 @@
 use Rattle.std.specs.Prelude.{ℕ, ◌≡◌, Bool, true, false, List, take}
 use Rattle.meaning.specs.Answers.{Outcome, ok, refuse}
 use Rattle.meaning.specs.Syntax.{TableSet}
-use Rattle.meaning.specs.States.{readSet}
+use Rattle.meaning.specs.States.{read_set}
 use Rattle.meaning.specs.Run.{Ran}
-use Rattle.simulator.specs.RunIndex.{runIndex}
+use Rattle.simulator.specs.RunIndex.{run_index}
 use Rattle.set.specs.ReadSet.{ReadSet}
 use Rattle.scr.specs.declared.opening.Index.{Index}
 use Rattle.scr.specs.declared.opening.Reading.{Reading}
@@ -18,19 +18,19 @@ pub record IndexOf (ws : List ℕ) (x : Index) : Type 0 where
 
 unfoldable pub ReadingAs : List ℕ → Reading → Index → Type 0
 ReadingAs ws Set x = IndexOf ws x
-ReadingAs ws (Refused q) x = readSet ws ≡ refused q
+ReadingAs ws (Refused q) x = read_set ws ≡ refused q
 
 unfoldable pub OpenedAs : List ℕ → Index → Type 0
 OpenedAs ws x = ReadingAs ws x.reading x
 
-unfoldable pub isOk : {A : Type 0} → Outcome A → Bool
-isOk (ok a) = true
-isOk (refuse n xs) = false
+unfoldable pub is_ok : {A : Type 0} → Outcome A → Bool
+is_ok (ok a) = true
+is_ok (refuse n xs) = false
 
 -- do the words read?
-unfoldable pub readsWell : List ℕ → Bool
-readsWell ws = isOk (readSet ws)
+unfoldable pub reads_well : List ℕ → Bool
+reads_well ws = is_ok (read_set ws)
 
 -- the events in turn from state s, by the index
-unfoldable pub runIn : List ℕ → Index → ℕ → List ℕ → Ran
-runIn ws x s es = runIndex ws x.places x.weights (take x.variables x.order) x.variables 0 s es
+unfoldable pub run_in : List ℕ → Index → ℕ → List ℕ → Ran
+run_in ws x s es = run_index ws x.places x.weights (take x.variables x.order) x.variables 0 s es

@@ -4,13 +4,13 @@ use Rattle.word.specs.Limits as Max
 use Rattle.scr.specs.declared.telling.Told.{Told}
 
 -- numbers that a refusal carries at most
-abbrev pub max-carried : ℕ
-max-carried = 6
+abbrev pub max_carried : ℕ
+max_carried = 6
 
 -- number and list of what is carried
 pub record Tells (t : Told) (s : ℕ × List ℕ) : Type 0 where
   pub number : t.number ≡ s.0
   pub carried : take t.count t.carried ≡ s.1
-  pub known : t.number ≤ Max.last-refusal
-  pub few : t.count ≤ max-carried
-  pub long : length t.carried ≡ max-carried
+  pub known : t.number ≤ Max.last_refusal
+  pub few : t.count ≤ max_carried
+  pub long : length t.carried ≡ max_carried

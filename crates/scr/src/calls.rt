@@ -1,9 +1,9 @@
 // What the entries do once the set has been read, by its index.
 ghost use Rattle.std.specs.Prelude.{◌≡◌, Bool, ℕ, ◌<◌, ◌≤◌, length};
-ghost use Rattle.meaning.specs.Calls.{startOf, valuesOf, lentValues};
-ghost use Rattle.meaning.specs.Steps.{stepOf};
-ghost use Rattle.scr.specs.Answers.{answerSays, countSays, countOf};
-ghost use Rattle.scr.specs.Opened.{IndexOf, readsWell};
+ghost use Rattle.meaning.specs.Calls.{start_of, values_of, lent_values};
+ghost use Rattle.meaning.specs.Steps.{step_of};
+ghost use Rattle.scr.specs.Answers.{answer_says, count_says, count_of};
+ghost use Rattle.scr.specs.Opened.{IndexOf, reads_well};
 
 use crate::opening::{Index, Reading, open};
 use crate::{Answer, Count, Refusal, refusals};
@@ -13,7 +13,7 @@ use word::{MAX_VARIABLES, Value};
 
 // Does the set read (refusals 1 to 9)?
 pub fn reads(words: &[u32]) -> bool
-    ensures { result ≡ readsWell words.now }
+    ensures { result ≡ reads_well words.now }
 {
     let reading = open(words).reading;
     match reading {
@@ -24,7 +24,7 @@ pub fn reads(words: &[u32]) -> bool
 
 pub fn start(words: &[u32], index: Index) -> Answer
     requires { IndexOf words.now index }
-    ensures { answerSays result ≡ startOf words.now }
+    ensures { answer_says result ≡ start_of words.now }
 {
     let places = index.places;
     let weights = index.weights;
@@ -33,7 +33,7 @@ pub fn start(words: &[u32], index: Index) -> Answer
 
 pub fn step(words: &[u32], index: Index, s: u32, w: u32) -> Answer
     requires { IndexOf words.now index }
-    ensures { answerSays result ≡ stepOf words.now s w }
+    ensures { answer_says result ≡ step_of words.now s w }
 {
     if index.states <= s {
         return Answer::Refused(Refusal::NoState(s));
@@ -62,8 +62,8 @@ pub fn step(words: &[u32], index: Index, s: u32, w: u32) -> Answer
 // The state is examined in a list of its own, so that a refusal writes nothing to the lent one.
 fn examine(words: &[u32], index: Index, s: u32, own: &mut [Value], out: &mut [Value]) -> Count
     requires { IndexOf words.now index × (length own.old ≡ index.variables) × (index.variables ≤ length out.old) × (s < index.states) }
-    ensures result_value { countSays result ≡ countOf (valuesOf words.now s (length out.old)) }
-    ensures out_after { out.new ≡ lentValues (valuesOf words.now s (length out.old)) out.old }
+    ensures result_value { count_says result ≡ count_of (values_of words.now s (length out.old)) }
+    ensures out_after { out.new ≡ lent_values (values_of words.now s (length out.old)) out.old }
 {
     let n = index.variables;
     let places = index.places;
@@ -83,8 +83,8 @@ fn examine(words: &[u32], index: Index, s: u32, own: &mut [Value], out: &mut [Va
 
 pub fn values(words: &[u32], index: Index, s: u32, out: &mut [Value]) -> Count
     requires { IndexOf words.now index }
-    ensures result_value { countSays result ≡ countOf (valuesOf words.now s (length out.old)) }
-    ensures out_after { out.new ≡ lentValues (valuesOf words.now s (length out.old)) out.old }
+    ensures result_value { count_says result ≡ count_of (values_of words.now s (length out.old)) }
+    ensures out_after { out.new ≡ lent_values (values_of words.now s (length out.old)) out.old }
 {
     let n = index.variables;
     if out.len() < n {

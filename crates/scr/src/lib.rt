@@ -11,15 +11,15 @@ pub mod telling; // a refusal as numbers
 mod verdicts; // the verdict of a set that reads
 
 ghost use Rattle.std.specs.Prelude.{◌≡◌, ℕ, length};
-ghost use Rattle.meaning.specs.Answers.{startNumbers, checkNumbers, stepNumbers, valuesNumbers};
-ghost use Rattle.meaning.specs.Calls.{startOf, valuesOf, lentValues, rowsOf};
-ghost use Rattle.meaning.specs.Steps.{stepOf};
-ghost use Rattle.meaning.specs.Run.{runOf};
+ghost use Rattle.meaning.specs.Answers.{start_numbers, check_numbers, step_numbers, values_numbers};
+ghost use Rattle.meaning.specs.Calls.{start_of, values_of, lent_values, rows_of};
+ghost use Rattle.meaning.specs.Steps.{step_of};
+ghost use Rattle.meaning.specs.Run.{run_of};
 ghost use Rattle.meaning.specs.Passes.{Refused};
 ghost use Rattle.meaning.specs.Demand1.{StartRefused, StepRefused, ValuesRefused, AnswersOrRefuses, RunAnswers, RowsAnswers};
 ghost use Rattle.meaning.specs.Demand3.{Demand3};
-ghost use Rattle.meaning.specs.Check.{checkOf};
-ghost use Rattle.scr.specs.Answers.{answerSays, verdictSays, countSays, countOf};
+ghost use Rattle.meaning.specs.Check.{check_of};
+ghost use Rattle.scr.specs.Answers.{answer_says, verdict_says, count_says, count_of};
 ghost use Rattle.scr.specs.Promises.{Demand2, StartsExactly, StepsExactly, ValuesExactly};
 
 use crate::opening::{Reading, open};
@@ -135,8 +135,8 @@ pub enum Count {
 
 // The initial state, which holds the initial values, or the first of refusals 1 to 9.
 pub fn start(words: &[u32]) -> Answer
-    ensures result_value { answerSays result ≡ startOf words.now }
-    ensures answers_or_refuses { AnswersOrRefuses (answerSays result) startNumbers (StartRefused words.now) }
+    ensures result_value { answer_says result ≡ start_of words.now }
+    ensures answers_or_refuses { AnswersOrRefuses (answer_says result) start_numbers (StartRefused words.now) }
     ensures starts_exactly { StartsExactly words.now result }
 {
     let index = open(words);
@@ -150,8 +150,8 @@ pub fn start(words: &[u32]) -> Answer
 // The word that a set may be loaded. Every typed state, every typed step and every assertion counts; which steps are looked at singly is the
 // filter's matter (crate filter).
 pub fn check(words: &[u32]) -> Verdict
-    ensures result_value { verdictSays result ≡ checkOf words.now }
-    ensures answers_or_refuses { AnswersOrRefuses (verdictSays result) checkNumbers (Refused words.now) }
+    ensures result_value { verdict_says result ≡ check_of words.now }
+    ensures answers_or_refuses { AnswersOrRefuses (verdict_says result) check_numbers (Refused words.now) }
     ensures demand2 { Demand2 words.now result }
 {
     let index = open(words);
@@ -165,8 +165,8 @@ pub fn check(words: &[u32]) -> Verdict
 // The next state, or the refusal. It answers a state exactly if that is the one next state by the SCR rules, met without gap or overlap,
 // and the event word is enabled.
 pub fn step(words: &[u32], state: u32, event: u32) -> Answer
-    ensures result_value { answerSays result ≡ stepOf words.now state event }
-    ensures answers_or_refuses { AnswersOrRefuses (answerSays result) stepNumbers (StepRefused words.now state event) }
+    ensures result_value { answer_says result ≡ step_of words.now state event }
+    ensures answers_or_refuses { AnswersOrRefuses (answer_says result) step_numbers (StepRefused words.now state event) }
     ensures steps_exactly { StepsExactly words.now state event result }
 {
     let index = open(words);
@@ -180,10 +180,10 @@ pub fn step(words: &[u32], state: u32, event: u32) -> Answer
 // The events in turn from a state on. The state after each event done is written to the lent list from the place on, and the last is given;
 // a refusal keeps what was written.
 pub fn run(words: &[u32], state: u32, events: &[u32], trace: &mut [u32], place: usize) -> Answer
-    ensures result_value { answerSays result ≡ (runOf words.now state events.now trace.old place).answer }
-    ensures trace_after { trace.new ≡ (runOf words.now state events.now trace.old place).lent }
-    ensures run_answers { RunAnswers words.now state events.now trace.old place (answerSays result) trace.new }
-    ensures demand3 { Demand3 words.now state events.now trace.old place (answerSays result) trace.new }
+    ensures result_value { answer_says result ≡ (run_of words.now state events.now trace.old place).answer }
+    ensures trace_after { trace.new ≡ (run_of words.now state events.now trace.old place).lent }
+    ensures run_answers { RunAnswers words.now state events.now trace.old place (answer_says result) trace.new }
+    ensures demand3 { Demand3 words.now state events.now trace.old place (answer_says result) trace.new }
 {
     let index = open(words);
     let reading = index.reading;
@@ -196,9 +196,9 @@ pub fn run(words: &[u32], state: u32, events: &[u32], trace: &mut [u32], place: 
 // The values of a state, one a variable at the front of a lent list; elements beyond keep their content. They are written exactly if they are the
 // one valuation of the state, met without gap or overlap.
 pub fn values(words: &[u32], state: u32, out: &mut [Value]) -> Count
-    ensures result_value { countSays result ≡ countOf (valuesOf words.now state (length out.old)) }
-    ensures out_after { out.new ≡ lentValues (valuesOf words.now state (length out.old)) out.old }
-    ensures answers_or_refuses { AnswersOrRefuses (countSays result) valuesNumbers (ValuesRefused words.now state (length out.old)) }
+    ensures result_value { count_says result ≡ count_of (values_of words.now state (length out.old)) }
+    ensures out_after { out.new ≡ lent_values (values_of words.now state (length out.old)) out.old }
+    ensures answers_or_refuses { AnswersOrRefuses (count_says result) values_numbers (ValuesRefused words.now state (length out.old)) }
     ensures values_exactly { ValuesExactly words.now state out.old result out.new }
 {
     let index = open(words);
@@ -212,7 +212,7 @@ pub fn values(words: &[u32], state: u32, out: &mut [Value]) -> Count
 // The rows of a variable's table, as a part of the caller's words: those that reading the table took, its table word first; the empty part
 // if the set does not read or has no such table.
 pub fn rows(words: &[u32], variable: u32) -> &[u32]
-    ensures result_value { result.now ≡ rowsOf words.now variable }
+    ensures result_value { result.now ≡ rows_of words.now variable }
     ensures rows_answers { RowsAnswers words.now variable result.now }
 {
     if !calls::reads(words) {

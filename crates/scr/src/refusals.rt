@@ -1,11 +1,11 @@
 // Making the refusals: each function's promise is its number in the documents and what is carried.
 ghost use Rattle.std.specs.Prelude.{◌≡◌, true, List, [], ◌∷◌, ℕ};
-ghost use Rattle.meaning.specs.Answers.{typedNumbers};
+ghost use Rattle.meaning.specs.Answers.{typed_numbers};
 ghost use Rattle.meaning.specs.Searches.{mem};
-ghost use Rattle.meaning.specs.Steps.{inputOf};
-ghost use Rattle.simulator.specs.StepIndex.{steppedSays};
-ghost use Rattle.checker.specs.Sweeps.{faultIs};
-ghost use Rattle.scr.specs.Answers.{refusalSays, answerSays};
+ghost use Rattle.meaning.specs.Steps.{input_of};
+ghost use Rattle.simulator.specs.StepIndex.{stepped_says};
+ghost use Rattle.checker.specs.Sweeps.{fault_is};
+ghost use Rattle.scr.specs.Answers.{refusal_says, answer_says};
 
 use crate::{Answer, Broken, Cycle, Gap, Input, Overlap, Refusal, StepOverlap};
 use checker::{Fault, Note};
@@ -14,8 +14,8 @@ use word::{given, variable};
 
 // What reading refuses before the dependency order carries one number.
 pub fn reading(number: u32, carried: usize) -> Refusal
-    requires { mem number typedNumbers ≡ true }
-    ensures { refusalSays result ≡ (number, carried ∷ []) }
+    requires { mem number typed_numbers ≡ true }
+    ensures { refusal_says result ≡ (number, carried ∷ []) }
 {
     match number {
         1 => Refusal::Length(carried),
@@ -31,7 +31,7 @@ pub fn reading(number: u32, carried: usize) -> Refusal
 }
 
 pub fn cycle(variable: usize, length: usize) -> Refusal
-    ensures { refusalSays result ≡ (9, variable ∷ length ∷ []) }
+    ensures { refusal_says result ≡ (9, variable ∷ length ∷ []) }
 {
     let c = Cycle {
         variable: variable,
@@ -41,7 +41,7 @@ pub fn cycle(variable: usize, length: usize) -> Refusal
 }
 
 pub fn gap(side: u32, state: u32, variable: usize) -> Refusal
-    ensures { refusalSays result ≡ (10, side ∷ state ∷ variable ∷ []) }
+    ensures { refusal_says result ≡ (10, side ∷ state ∷ variable ∷ []) }
 {
     let g = Gap {
         side: side,
@@ -52,7 +52,7 @@ pub fn gap(side: u32, state: u32, variable: usize) -> Refusal
 }
 
 pub fn overlap(side: u32, state: u32, variable: usize, first: usize, second: usize) -> Refusal
-    ensures { refusalSays result ≡ (11, side ∷ state ∷ variable ∷ first ∷ second ∷ []) }
+    ensures { refusal_says result ≡ (11, side ∷ state ∷ variable ∷ first ∷ second ∷ []) }
 {
     let o = Overlap {
         side: side,
@@ -66,7 +66,7 @@ pub fn overlap(side: u32, state: u32, variable: usize, first: usize, second: usi
 
 // The input event is the one of event word w.
 pub fn step_overlap(state: u32, w: u32, v: usize, first: usize, second: usize) -> Refusal
-    ensures { refusalSays result ≡ (12, state ∷ (inputOf w).variable ∷ (inputOf w).value ∷ v ∷ first ∷ second ∷ []) }
+    ensures { refusal_says result ≡ (12, state ∷ (input_of w).variable ∷ (input_of w).value ∷ v ∷ first ∷ second ∷ []) }
 {
     let input = Input {
         variable: variable(w) as usize,
@@ -84,7 +84,7 @@ pub fn step_overlap(state: u32, w: u32, v: usize, first: usize, second: usize) -
 
 // The answer of a step from a state by event word w.
 pub fn stepped(state: u32, w: u32, r: Stepped) -> Answer
-    ensures { answerSays result ≡ steppedSays state (inputOf w) r }
+    ensures { answer_says result ≡ stepped_says state (input_of w) r }
 {
     match r {
         Stepped::State(t) => Answer::State(t),
@@ -97,7 +97,7 @@ pub fn stepped(state: u32, w: u32, r: Stepped) -> Answer
 
 // A gap or an overlap that check met.
 pub fn fault(f: Fault) -> Refusal
-    ensures { refusalSays result ≡ faultIs f }
+    ensures { refusal_says result ≡ fault_is f }
 {
     match f {
         Fault::Gap(side, s, v) => gap(side, s, v),
@@ -121,7 +121,7 @@ pub fn fault(f: Fault) -> Refusal
 
 // The assertion that check noted as broken, with its first step.
 pub fn broken(x: Note) -> Refusal
-    ensures { refusalSays result ≡ (14, x.bound ∷ x.state ∷ x.variable ∷ x.value ∷ []) }
+    ensures { refusal_says result ≡ (14, x.bound ∷ x.state ∷ x.variable ∷ x.value ∷ []) }
 {
     let input = Input {
         variable: x.variable,

@@ -1,9 +1,9 @@
 // A run of a set that reads, by its index.
 ghost use Rattle.std.specs.Prelude.{◌≡◌, ℕ, ◌-◌, ◌≤◌, length};
 ghost use Rattle.std.proofs.lemmas.List.Edits.{sets};
-ghost use Rattle.meaning.specs.Run.{runOf};
-ghost use Rattle.scr.specs.Answers.{answerSays};
-ghost use Rattle.scr.specs.Opened.{IndexOf, runIn};
+ghost use Rattle.meaning.specs.Run.{run_of};
+ghost use Rattle.scr.specs.Answers.{answer_says};
+ghost use Rattle.scr.specs.Opened.{IndexOf, run_in};
 
 use crate::opening::Index;
 use crate::{Answer, Refusal, refusals};
@@ -20,8 +20,8 @@ fn room_from(all: usize, place: usize) -> usize
 // The events, with room for each at the front of the lent list.
 fn perform(words: &[u32], index: Index, s: u32, events: &[u32], trace: &mut [u32]) -> Answer
     requires { IndexOf words.now index × (length events.now ≤ length trace.old) }
-    ensures result_value { answerSays result ≡ (runIn words.now index s events.now).last }
-    ensures trace_after { trace.new ≡ sets trace.old 0 (runIn words.now index s events.now).done }
+    ensures result_value { answer_says result ≡ (run_in words.now index s events.now).last }
+    ensures trace_after { trace.new ≡ sets trace.old 0 (run_in words.now index s events.now).done }
 {
     let n = index.variables;
     let places = index.places;
@@ -57,8 +57,8 @@ fn perform_from(
     place: usize,
 ) -> Answer
     requires { IndexOf words.now index × (length events.now ≤ length trace.old - place) }
-    ensures result_value { answerSays result ≡ (runIn words.now index s events.now).last }
-    ensures trace_after { trace.new ≡ sets trace.old place (runIn words.now index s events.now).done }
+    ensures result_value { answer_says result ≡ (run_in words.now index s events.now).last }
+    ensures trace_after { trace.new ≡ sets trace.old place (run_in words.now index s events.now).done }
 {
     if trace.len() <= place {
         return Answer::State(s);
@@ -76,8 +76,8 @@ pub fn run(
     place: usize,
 ) -> Answer
     requires { IndexOf words.now index }
-    ensures result_value { answerSays result ≡ (runOf words.now s events.now trace.old place).answer }
-    ensures trace_after { trace.new ≡ (runOf words.now s events.now trace.old place).lent }
+    ensures result_value { answer_says result ≡ (run_of words.now s events.now trace.old place).answer }
+    ensures trace_after { trace.new ≡ (run_of words.now s events.now trace.old place).lent }
 {
     if MAX_EVENTS < events.len() {
         return Answer::Refused(Refusal::Room(MAX_EVENTS + 1));

@@ -1,7 +1,7 @@
 // A refusal as numbers, for those that answer by numbers or print them.
 ghost use Rattle.std.specs.Prelude.{[], ◌∷◌, ℕ, ◌≤◌};
 ghost use Rattle.word.specs.Limits as Max;
-ghost use Rattle.scr.specs.Answers.{refusalSays};
+ghost use Rattle.scr.specs.Answers.{refusal_says};
 ghost use Rattle.scr.specs.Telling.{Tells};
 
 use crate::Refusal;
@@ -18,7 +18,7 @@ pub struct Told {
 }
 
 fn one(number: u32, a: u64) -> Told
-    requires { number ≤ Max.last-refusal }
+    requires { number ≤ Max.last_refusal }
     ensures { Tells result (number, a ∷ []) }
 {
     Told {
@@ -29,7 +29,7 @@ fn one(number: u32, a: u64) -> Told
 }
 
 fn two(number: u32, a: u64, b: u64) -> Told
-    requires { number ≤ Max.last-refusal }
+    requires { number ≤ Max.last_refusal }
     ensures { Tells result (number, a ∷ b ∷ []) }
 {
     Told {
@@ -40,7 +40,7 @@ fn two(number: u32, a: u64, b: u64) -> Told
 }
 
 fn three(number: u32, a: u64, b: u64, c: u64) -> Told
-    requires { number ≤ Max.last-refusal }
+    requires { number ≤ Max.last_refusal }
     ensures { Tells result (number, a ∷ b ∷ c ∷ []) }
 {
     Told {
@@ -51,7 +51,7 @@ fn three(number: u32, a: u64, b: u64, c: u64) -> Told
 }
 
 fn four(number: u32, a: u64, b: u64, c: u64, d: u64) -> Told
-    requires { number ≤ Max.last-refusal }
+    requires { number ≤ Max.last_refusal }
     ensures { Tells result (number, a ∷ b ∷ c ∷ d ∷ []) }
 {
     Told {
@@ -62,7 +62,7 @@ fn four(number: u32, a: u64, b: u64, c: u64, d: u64) -> Told
 }
 
 fn five(number: u32, a: u64, b: u64, c: u64, d: u64, e: u64) -> Told
-    requires { number ≤ Max.last-refusal }
+    requires { number ≤ Max.last_refusal }
     ensures { Tells result (number, a ∷ b ∷ c ∷ d ∷ e ∷ []) }
 {
     Told {
@@ -73,7 +73,7 @@ fn five(number: u32, a: u64, b: u64, c: u64, d: u64, e: u64) -> Told
 }
 
 fn six(number: u32, a: u64, b: u64, c: u64, d: u64, e: u64, f: u64) -> Told
-    requires { number ≤ Max.last-refusal }
+    requires { number ≤ Max.last_refusal }
     ensures { Tells result (number, a ∷ b ∷ c ∷ d ∷ e ∷ f ∷ []) }
 {
     Told {
@@ -83,9 +83,9 @@ fn six(number: u32, a: u64, b: u64, c: u64, d: u64, e: u64, f: u64) -> Told
     }
 }
 
-#[tactic(auto, using(crate::proofs::Refusing::told_case), unfolding(crate::specs::Answers::refusalSays))]
+#[tactic(auto, using(crate::proofs::Refusing::told_case), unfolding(crate::specs::Answers::refusal_says))]
 pub fn tell(q: Refusal) -> Told
-    ensures { Tells result (refusalSays q) }
+    ensures { Tells result (refusal_says q) }
 {
     match q {
         Refusal::Length(n) => one(1, n as u64),

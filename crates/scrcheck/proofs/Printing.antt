@@ -4,8 +4,8 @@ use Rattle.std.proofs.Math.Decide.{dec_lt}
 use Rattle.std.proofs.lemmas.List.Edits.{sets, sets-eq}
 use Rattle.std.specs.Io.KnownBytes.{Consumes, IsAtEnd, Appends}
 use lib.Seq.{take-append-le, take-length, length-sets}
-use Rattle.meaning.specs.Program.{programOf}
-use Rattle.report.specs.Beyond.{max-input, beyond-ignored}
+use Rattle.meaning.specs.Program.{program_of}
+use Rattle.report.specs.Beyond.{max_input, beyond_ignored}
 use Rattle.scrcheck.specs.Prints.{Prints}
 
 -- what stands at the front of the buffer after report
@@ -16,18 +16,18 @@ shown xs ys p k e l h =
     rw (l, e, sets-eq p xs 0 fits) (take-append-le (length p) p rest (le_refl (length p)) ∙ take-length p)
 
 -- the bytes read decide what is printed: they are the input, or as much of it as is looked at
-module _ (bytes : List ℕ) (n : ℕ) (long : length bytes ≡ max-input) (within : n ≤ length bytes) where
-  decides : (input rest : List ℕ) → input ≡ take n bytes ++ rest → (n < length bytes → rest ≡ []) → programOf (take n bytes) ≡ programOf input
+module _ (bytes : List ℕ) (n : ℕ) (long : length bytes ≡ max_input) (within : n ≤ length bytes) where
+  decides : (input rest : List ℕ) → input ≡ take n bytes ++ rest → (n < length bytes → rest ≡ []) → program_of (take n bytes) ≡ program_of input
   decides input rest e ended = elim (dec_lt n (length bytes)) [
-    | yes h ↦ ap programOf (sym (e ∙ ap (λ l. take n bytes ++ l) (ended h) ∙ append-nil (take n bytes)))
+    | yes h ↦ ap program_of (sym (e ∙ ap (λ l. take n bytes ++ l) (ended h) ∙ append-nil (take n bytes)))
     | no h ↦
-        let full : n ≡ max-input = omega (arith, h, long, within) in
-        let all : length (take n bytes) ≡ max-input = length-take-le n bytes within ∙ full in
-        ap programOf (sym (take-length (take n bytes)) ∙ sym (take-append-le (length (take n bytes)) (take n bytes) rest (le_refl (length (take n bytes)))) ∙ ap (λ m. take m (take n bytes ++ rest)) all ∙ ap (take max-input) (sym e)) ∙ beyond-ignored input
+        let full : n ≡ max_input = omega (arith, h, long, within) in
+        let all : length (take n bytes) ≡ max_input = length-take-le n bytes within ∙ full in
+        ap program_of (sym (take-length (take n bytes)) ∙ sym (take-append-le (length (take n bytes)) (take n bytes) rest (le_refl (length (take n bytes)))) ∙ ap (λ m. take m (take n bytes ++ rest)) all ∙ ap (take max_input) (sym e)) ∙ beyond_ignored input
   ]
 
   pub judged : (old new before after : Option (List ℕ)) → Consumes old new (take n bytes) → (n < length bytes → IsAtEnd new)
-      → Appends before after (programOf (take n bytes)) → Prints old before after
+      → Appends before after (program_of (take n bytes)) → Prints old before after
   judged None new before after taken ended put = tt
   judged (Some input) None before after taken ended put = elim taken [ ]
   judged (Some input) (Some rest) before after taken ended put = subst (Appends before after) (decides input rest taken ended) put

@@ -3,5 +3,5 @@ use Rattle.std.specs.Prelude.{ℕ, ◌*◌}
 use Rattle.word.specs.Limits as Max
 
 -- four bytes for each word of a set
-abbrev pub max-bytes : ℕ
-max-bytes = Max.max-words * 4
+abbrev pub max_bytes : ℕ
+max_bytes = Max.max_words * 4

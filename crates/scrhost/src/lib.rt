@@ -5,7 +5,7 @@ mod numbers; // answers as numbers
 mod words; // bytes to words
 
 ghost use Rattle.std.specs.Prelude.{◌≡◌};
-ghost use Rattle.meaning.specs.Host.{hostCheckOf, hostStepOf};
+ghost use Rattle.meaning.specs.Host.{host_check_of, host_step_of};
 
 use numbers::{REFUSED, check_number, step_number};
 use scr::{check, step};
@@ -18,7 +18,7 @@ const LENGTH: u32 = 1;
 // 0, or the number of the refusal.
 #[unsafe(no_mangle)]
 pub extern "C" fn scr_check(bytes: &[u8]) -> u32
-    ensures { result ≡ hostCheckOf bytes.now }
+    ensures { result ≡ host_check_of bytes.now }
 {
     if !fits(bytes.len()) {
         return LENGTH;
@@ -32,7 +32,7 @@ pub extern "C" fn scr_check(bytes: &[u8]) -> u32
 // The next state, or 2^31 plus the number of the refusal.
 #[unsafe(no_mangle)]
 pub extern "C" fn scr_step(bytes: &[u8], state: u32, event: u32) -> u32
-    ensures { result ≡ hostStepOf bytes.now state event }
+    ensures { result ≡ host_step_of bytes.now state event }
 {
     if !fits(bytes.len()) {
         return REFUSED + LENGTH;

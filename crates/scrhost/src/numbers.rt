@@ -1,7 +1,7 @@
 // Answers as the host's numbers.
 ghost use Rattle.std.specs.Prelude.{◌≡◌};
 ghost use Rattle.meaning.specs.Host.{passed, stepped};
-ghost use Rattle.scr.specs.Answers.{answerSays, verdictSays};
+ghost use Rattle.scr.specs.Answers.{answer_says, verdict_says};
 
 use scr::telling::tell;
 use scr::{Answer, Verdict};
@@ -11,7 +11,7 @@ pub const REFUSED: u32 = 2147483648;
 
 // 0, or the number of the refusal.
 pub fn check_number(v: Verdict) -> u32
-    ensures { result ≡ passed (verdictSays v) }
+    ensures { result ≡ passed (verdict_says v) }
 {
     match v {
         Verdict::Pass(_) => 0,
@@ -21,7 +21,7 @@ pub fn check_number(v: Verdict) -> u32
 
 // The state, or 2^31 plus the number of the refusal.
 pub fn step_number(a: Answer) -> u32
-    ensures { result ≡ stepped (answerSays a) }
+    ensures { result ≡ stepped (answer_says a) }
 {
     match a {
         Answer::State(s) => s,

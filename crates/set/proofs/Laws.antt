@@ -5,50 +5,50 @@ use Prim.Native.Nat.{ℕ, ◌≤◌}
 use lib.ListN.{length, take}
 use Rattle.word.specs.Limits as Max
 use Rattle.meaning.specs.Answers.{ok, refuse}
-use Rattle.meaning.specs.Order.{order, noCycle}
-use Rattle.meaning.specs.States.{readTyped, readSet}
+use Rattle.meaning.specs.Order.{order, no_cycle}
+use Rattle.meaning.specs.States.{read_typed, read_set}
 use Rattle.reader.specs.declared.Typed as T
 use Rattle.reader.specs.declared.Typed.TheVariants as TV
 use Rattle.reader.specs.Typed.{TypedAs}
 use Rattle.order.specs.declared.Order as O
 use Rattle.order.specs.declared.Order.TheVariants as OV
-use Rattle.order.specs.Orders.{orderAt, noCycleAt, cycleSaid}
-use Rattle.order.proofs.Means.{order-means, order-below}
-use Rattle.theory.specs.Numbered.{typed-number}
+use Rattle.order.specs.Orders.{order_at, no_cycle_at, cycle_said}
+use Rattle.order.proofs.Means.{order_means, order_below}
+use Rattle.theory.specs.Numbered.{typed_number}
 use Rattle.set.specs.declared.SetRead.TheVariants.{Set, Refused, Cycle}
 use Rattle.set.specs.ReadSet.{SetAs}
 
-pub set-refused : (ws ps us os : List ℕ) (t : T.Typed) (k x : ℕ) → TypedAs ws t ps us → t ≡ TV.Refused k x → SetAs ws (Refused k x) ps us os
-unfolding SetAs TypedAs readSet
-set-refused ws ps us os t k x h e =
-    let r : readTyped ws ≡ refuse k (x ∷ []) = subst (λ (y : T.Typed). TypedAs ws y ps us) e h in
-    (rw r, typed-number ws k (x ∷ []) r)
+pub set_refused : (ws ps us os : List ℕ) (t : T.Typed) (k x : ℕ) → TypedAs ws t ps us → t ≡ TV.Refused k x → SetAs ws (Refused k x) ps us os
+unfolding SetAs TypedAs read_set
+set_refused ws ps us os t k x h e =
+    let r : read_typed ws ≡ refuse k (x ∷ []) = subst (λ (y : T.Typed). TypedAs ws y ps us) e h in
+    (rw r, typed_number ws k (x ∷ []) r)
 
-pub index-few : (ws ps us : List ℕ) (t : T.Typed) (n a c : ℕ) → TypedAs ws t ps us → t ≡ TV.Set n a c → n ≤ Max.max-variables
+pub index_few : (ws ps us : List ℕ) (t : T.Typed) (n a c : ℕ) → TypedAs ws t ps us → t ≡ TV.Set n a c → n ≤ Max.max_variables
 unfolding TypedAs
-index-few ws ps us t n a c h e = let p = rw e at h in p.1.indexed.few
+index_few ws ps us t n a c h e = let p = rw e at h in p.1.indexed.few
 
 module _ (ws ps us os : List ℕ) (t : T.Typed) (n a c : ℕ) (o : O.Order) (h : TypedAs ws t ps us) (e : t ≡ TV.Set n a c)
-    (eo : cycleSaid o ≡ noCycleAt ws ps n) where
-  pub set-cycle : (w m : ℕ) → o ≡ OV.Cycle w m → SetAs ws (Cycle w m) ps us os
-  unfolding SetAs TypedAs cycleSaid readSet
-  set-cycle w m p =
+    (eo : cycle_said o ≡ no_cycle_at ws ps n) where
+  pub set_cycle : (w m : ℕ) → o ≡ OV.Cycle w m → SetAs ws (Cycle w m) ps us os
+  unfolding SetAs TypedAs cycle_said read_set
+  set_cycle w m p =
       let q = rw e at h in
-      let s : noCycle q.0 ≡ refuse 9 (w ∷ m ∷ []) = sym (order-means q.1.indexed).1 ∙ sym eo ∙ rw p in
+      let s : no_cycle q.0 ≡ refuse 9 (w ∷ m ∷ []) = sym (order_means q.1.indexed).1 ∙ sym eo ∙ rw p in
       rw (q.1.typed, s)
 
-  pub set-all : o ≡ OV.All → take (length (orderAt ws ps n)) os ≡ orderAt ws ps n → length os ≡ Max.max-variables → SetAs ws (Set n a c) ps us os
-  unfolding SetAs TypedAs cycleSaid readSet
-  set-all p take-is long =
+  pub set_all : o ≡ OV.All → take (length (order_at ws ps n)) os ≡ order_at ws ps n → length os ≡ Max.max_variables → SetAs ws (Set n a c) ps us os
+  unfolding SetAs TypedAs cycle_said read_set
+  set_all p take_is long =
       let q = rw e at h in
-      let m = order-means q.1.indexed in
-      let s : noCycle q.0 ≡ ok tt = sym m.1 ∙ sym eo ∙ rw p in (
+      let m = order_means q.1.indexed in
+      let s : no_cycle q.0 ≡ ok tt = sym m.1 ∙ sym eo ∙ rw p in (
         q.0,
         record {
           reads = rw (q.1.typed, s);
           typed = q.1;
           acyclic = s;
-          order-is = subst (λ (k : ℕ). take k os ≡ order q.0) (order-below q.1.indexed s) (take-is ∙ m.0);
-          order-long = long;
+          order_is = subst (λ (k : ℕ). take k os ≡ order q.0) (order_below q.1.indexed s) (take_is ∙ m.0);
+          order_long = long;
         },
       )

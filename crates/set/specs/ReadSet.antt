@@ -1,24 +1,24 @@
 -- What a reading without a refusal leaves: the set that the words say, and its index.
 use Rattle.std.specs.Prelude.{ℕ, ◌≡◌, true, List, [], ◌∷◌, length, take}
 use Rattle.word.specs.Limits as Max
-use Rattle.meaning.specs.Answers.{ok, refuse, typedNumbers}
+use Rattle.meaning.specs.Answers.{ok, refuse, typed_numbers}
 use Rattle.meaning.specs.Searches.{mem}
 use Rattle.meaning.specs.Syntax.{TableSet}
-use Rattle.meaning.specs.Order.{order, noCycle}
-use Rattle.meaning.specs.States.{readSet}
+use Rattle.meaning.specs.Order.{order, no_cycle}
+use Rattle.meaning.specs.States.{read_set}
 use Rattle.reader.specs.Typed.{TypedSet}
 use Rattle.set.specs.declared.SetRead.{SetRead}
 use Rattle.set.specs.declared.SetRead.TheVariants.{Set, Refused, Cycle}
 
 -- n variables, the first assertion at a, c states, tables at the places ps, weights us, dependency order os
 pub record ReadSet (ws : List ℕ) (z : TableSet) (n a c : ℕ) (ps us os : List ℕ) : Type 0 where
-  pub reads : readSet ws ≡ ok z
+  pub reads : read_set ws ≡ ok z
   pub typed : TypedSet ws z n a c ps us
-  pub acyclic : noCycle z ≡ ok tt
-  pub order-is : take n os ≡ order z
-  pub order-long : length os ≡ Max.max-variables
+  pub acyclic : no_cycle z ≡ ok tt
+  pub order_is : take n os ≡ order z
+  pub order_long : length os ≡ Max.max_variables
 
 unfoldable pub SetAs : List ℕ → SetRead → List ℕ → List ℕ → List ℕ → Type 0
 SetAs ws (Set n a c) ps us os = (z : TableSet) × ReadSet ws z n a c ps us os
-SetAs ws (Refused k x) ps us os = (readSet ws ≡ refuse k (x ∷ [])) × (mem k typedNumbers ≡ true)
-SetAs ws (Cycle w m) ps us os = readSet ws ≡ refuse 9 (w ∷ m ∷ [])
+SetAs ws (Refused k x) ps us os = (read_set ws ≡ refuse k (x ∷ [])) × (mem k typed_numbers ≡ true)
+SetAs ws (Cycle w m) ps us os = read_set ws ≡ refuse 9 (w ∷ m ∷ [])

@@ -3,7 +3,7 @@
 
 ghost use Rattle.std.specs.Prelude.{◌≡◌, length};
 ghost use Rattle.word.specs.Limits as Max;
-ghost use Rattle.reader.specs.Typed.{noPlaces, noWeights};
+ghost use Rattle.reader.specs.Typed.{no_places, no_weights};
 ghost use Rattle.set.specs.ReadSet.{SetAs};
 
 use order::{Order, order_tables};
@@ -23,7 +23,7 @@ pub fn read_set(
     weights: &mut [u32],
     order: &mut [usize],
 ) -> SetRead
-    requires { (places.old ≡ noPlaces) × (weights.old ≡ noWeights) × (length order.old ≡ Max.max-variables) }
+    requires { (places.old ≡ no_places) × (weights.old ≡ no_weights) × (length order.old ≡ Max.max_variables) }
     ensures { SetAs words.now result places.new weights.new order.new }
 {
     let t = read_typed(words, &mut places[..], &mut weights[..]);

@@ -1,21 +1,21 @@
 -- A run as the code works it out over the index of a set: the meaning's run, step by step with the index's step.
 use Rattle.std.specs.Prelude.{ℕ, suc, List, [], ◌∷◌}
 use Rattle.meaning.specs.Answers.{Outcome, ok, refuse}
-use Rattle.meaning.specs.Steps.{inputOf}
+use Rattle.meaning.specs.Steps.{input_of}
 use Rattle.meaning.specs.Run.{Ran}
 use Rattle.simulator.specs.declared.run.Ended.{Ended}
 use Rattle.simulator.specs.declared.run.Ended.TheVariants as E
-use Rattle.simulator.specs.StepIndex.{steppedSays, stepIndex}
+use Rattle.simulator.specs.StepIndex.{stepped_says, step_index}
 
 -- the answer of a run: a refused step's is that of the step, from the state before it by its word
-unfoldable pub endedSays : Ended → Outcome ℕ
-endedSays (E.Last t) = ok t
-endedSays (E.Refused s w r) = steppedSays s (inputOf w) r
+unfoldable pub ended_says : Ended → Outcome ℕ
+ended_says (E.Last t) = ok t
+ended_says (E.Refused s w r) = stepped_says s (input_of w) r
 
 -- the events from number i on, from state s
-unfoldable pub runIndex : List ℕ → List ℕ → List ℕ → List ℕ → ℕ → ℕ → ℕ → List ℕ → Ran
-runIndex ws ps us os n i s [] = record { done = []; last = ok s }
-runIndex ws ps us os n i s (w ∷ es) = elim (stepIndex ws ps us os n i s w) [
-  | ok t ↦ let r = runIndex ws ps us os n (suc i) t es in record { done = t ∷ r.done; last = r.last }
+unfoldable pub run_index : List ℕ → List ℕ → List ℕ → List ℕ → ℕ → ℕ → ℕ → List ℕ → Ran
+run_index ws ps us os n i s [] = record { done = []; last = ok s }
+run_index ws ps us os n i s (w ∷ es) = elim (step_index ws ps us os n i s w) [
+  | ok t ↦ let r = run_index ws ps us os n (suc i) t es in record { done = t ∷ r.done; last = r.last }
   | refuse k xs ↦ record { done = []; last = refuse k xs }
 ]

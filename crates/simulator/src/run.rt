@@ -2,7 +2,7 @@
 ghost use Rattle.std.specs.Prelude.{◌≡◌, ◌≤◌, length};
 ghost use Rattle.std.proofs.lemmas.List.Edits.{sets};
 ghost use Rattle.word.specs.Limits as Max;
-ghost use Rattle.simulator.specs.RunIndex.{endedSays, runIndex};
+ghost use Rattle.simulator.specs.RunIndex.{ended_says, run_index};
 
 use crate::{Stepped, step_from};
 use word::Value;
@@ -29,9 +29,9 @@ pub fn run_events(
     after: &mut [Value],
     trace: &mut [u32],
 ) -> Ended
-    requires { (length before.old ≡ n) × (length after.old ≡ n) × (n ≤ Max.max-variables) × (length events.now ≤ length trace.old) }
-    ensures result_value { endedSays result ≡ (runIndex words.now places.now weights.now order.now n 0 s events.now).last }
-    ensures trace_after { trace.new ≡ sets trace.old 0 (runIndex words.now places.now weights.now order.now n 0 s events.now).done }
+    requires { (length before.old ≡ n) × (length after.old ≡ n) × (n ≤ Max.max_variables) × (length events.now ≤ length trace.old) }
+    ensures result_value { ended_says result ≡ (run_index words.now places.now weights.now order.now n 0 s events.now).last }
+    ensures trace_after { trace.new ≡ sets trace.old 0 (run_index words.now places.now weights.now order.now n 0 s events.now).done }
 {
     let mut last = s;
     for i in 0..events.len() {

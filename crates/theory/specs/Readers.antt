@@ -2,8 +2,8 @@
 use Rattle.std.specs.Prelude.{ℕ, ◌≡◌, refl, Bool, true, false, List}
 use Rattle.std.proofs.Common.{sym, subst}
 use Rattle.meaning.specs.Answers.{Parse, fine, stop, ◌>>>◌, expect, if◌give◌else◌}
-use Rattle.meaning.specs.Reading.{Read, word, fits, wordAt}
-use Rattle.theory.specs.Found.{fine-same, fine-not-stop}
+use Rattle.meaning.specs.Reading.{Read, word, fits, word_at}
+use Rattle.theory.specs.Found.{fine_same, fine_not_stop}
 
 -- where m does not stop, P holds of what it gives
 pub data Gives {A : Type 0} (P : A → Type 0) : Parse A → Type 0 where
@@ -45,20 +45,20 @@ decides true p q = p tt refl
 decides false p q = q tt refl
 
 -- what is given, with the equation that says so
-pub given-as : {A : Type 0} {P : A → Type 0} {m : Parse A} → Gives P m → Gives (λ a. P a × (m ≡ fine a)) m
-given-as (gives a p) = gives a (p, refl)
-given-as (stops n i) = stops n i
+pub given_as : {A : Type 0} {P : A → Type 0} {m : Parse A} → Gives P m → Gives (λ a. P a × (m ≡ fine a)) m
+given_as (gives a p) = gives a (p, refl)
+given_as (stops n i) = stops n i
 
 -- what has been read has been given
 pub given : {A : Type 0} {P : A → Type 0} {m : Parse A} (a : A) → Gives P m → m ≡ fine a → P a
-given {P} a (gives b p) e = subst P (fine-same e) p
-given a (stops n i) e = absurd (fine-not-stop (sym e))
+given {P} a (gives b p) e = subst P (fine_same e) p
+given a (stops n i) e = absurd (fine_not_stop (sym e))
 
 -- a word that fits is the word that is there
-pub word-then : {A : Type 0} (ws kinds : List ℕ) (i : ℕ) (f : ℕ → Read A)
-    → (wordAt ws kinds i >>> f) ≡ (expect (fits kinds (word ws i)) 2 i >>> λ _. f (word ws i))
-unfolding wordAt
-word-then {A} ws kinds i f = go (fits kinds (word ws i))
+pub word_then : {A : Type 0} (ws kinds : List ℕ) (i : ℕ) (f : ℕ → Read A)
+    → (word_at ws kinds i >>> f) ≡ (expect (fits kinds (word ws i)) 2 i >>> λ _. f (word ws i))
+unfolding word_at
+word_then {A} ws kinds i f = go (fits kinds (word ws i))
   where
     go : (b : Bool) → ◌≡◌ {A = Read A} (expect b 2 i >>> (λ _. fine (word ws i)) >>> f) (expect b 2 i >>> λ _. f (word ws i))
     go true = refl

@@ -15,29 +15,29 @@ use Rattle.word.specs.Fields as W
 use Rattle.word.specs.Limits as Max
 use Rattle.meaning.specs.Answers.{ok, fine, ◌>>>◌, expect}
 use Rattle.meaning.specs.Searches.{mem, within}
-use Rattle.meaning.specs.Syntax.{Event, Variable, Body, Table, condition-table, TableSet}
-use Rattle.meaning.specs.Lookup.{definedBy, hasTable, count}
-use Rattle.meaning.specs.Reading.{Read, word, fits, conditionKinds, eventKinds, conditionBy, eventBy, testOk, variableOk, rowOk, rowsBy, bodyOf, eventTableBy, tableOk, tableFits, wordAt, readVariables, readCondition, readEvent, readRow, readRows, readBody, readTable, nextTable, readTables, readAssertion, readAssertions, readWords}
+use Rattle.meaning.specs.Syntax.{Event, Variable, Body, Table, condition_table, TableSet}
+use Rattle.meaning.specs.Lookup.{defined_by, has_table, count}
+use Rattle.meaning.specs.Reading.{Read, word, fits, condition_kinds, event_kinds, condition_by, event_by, test_ok, variable_ok, row_ok, rows_by, body_of, event_table_by, table_ok, table_fits, word_at, read_variables, read_condition, read_event, read_row, read_rows, read_body, read_table, next_table, read_tables, read_assertion, read_assertions, read_words}
 use Rattle.meaning.specs.TableWords.{Follow, nothing, more}
-use Rattle.theory.specs.Tests.{otherwise, true-not-false, not-true, and-true, eqb-true, leb-true, ltb-true, below-suc, all-of, mem-among, mem-cons, mem-none}
+use Rattle.theory.specs.Tests.{otherwise, true_not_false, not_true, and_true, eqb_true, leb_true, ltb_true, below_suc, all_of, mem_among, mem_cons, mem_none}
 use Rattle.theory.specs.Sections.{sections}
-use Rattle.theory.specs.Readers.{Gives, gives, stops, expected, after, past, so, branches, decides, given-as, given}
+use Rattle.theory.specs.Readers.{Gives, gives, stops, expected, after, past, so, branches, decides, given_as, given}
 
 -- the kinds of the words that follow a table word in its table: rows and formulas
-abbrev pub bodyKinds : List ℕ
-bodyKinds = 3 ∷ 4 ∷ 5 ∷ 6 ∷ 7 ∷ 8 ∷ 9 ∷ []
+abbrev pub body_kinds : List ℕ
+body_kinds = 3 ∷ 4 ∷ 5 ∷ 6 ∷ 7 ∷ 8 ∷ 9 ∷ []
 
-event-defined : (b : Bool) (t : Body Event) → definedBy (eventTableBy b t) ≡ t.variable
-unfolding eventTableBy definedBy
-event-defined true t = refl
-event-defined false t = refl
+event_defined : (b : Bool) (t : Body Event) → defined_by (event_table_by b t) ≡ t.variable
+unfolding event_table_by defined_by
+event_defined true t = refl
+event_defined false t = refl
 
 -- a table word whose fields are in range is of a variable that is there
-pub defined-below : (vs : List Variable) (w : ℕ) → tableOk vs w ≡ true → W.defined w < length vs
-unfolding tableOk
-defined-below vs w e =
-    let a = and-true _ (eqb (W.class-read w) Max.any || ltb (W.class-read w) (length vs)) e in
-    ltb-true (and-true (within 1 3 (W.sort w)) (ltb (W.defined w) (length vs)) a.0).1
+pub defined_below : (vs : List Variable) (w : ℕ) → table_ok vs w ≡ true → W.defined w < length vs
+unfolding table_ok
+defined_below vs w e =
+    let a = and_true _ (eqb (W.class_read w) Max.any || ltb (W.class_read w) (length vs)) e in
+    ltb_true (and_true (within 1 3 (W.sort w)) (ltb (W.defined w) (length vs)) a.0).1
 
 module _ (ws : List ℕ) where
   abbrev pub Kind : ℕ → ℕ
@@ -46,14 +46,14 @@ module _ (ws : List ℕ) where
   -- from i up to j stand words of a table's body, one at least
   pub record Spans (i j : ℕ) : Type 0 where
     pub some : i < j
-    pub kinds : (k : ℕ) → i ≤ k → k < j → mem (Kind k) bodyKinds ≡ true
+    pub kinds : (k : ℕ) → i ≤ k → k < j → mem (Kind k) body_kinds ≡ true
 
-  one-word : (kinds : List ℕ) (i : ℕ) → all-of (λ k. mem k bodyKinds) kinds ≡ true → mem (Kind i) kinds ≡ true → Spans i (suc i)
-  one-word kinds i sub h = record {
+  one_word : (kinds : List ℕ) (i : ℕ) → all_of (λ k. mem k body_kinds) kinds ≡ true → mem (Kind i) kinds ≡ true → Spans i (suc i)
+  one_word kinds i sub h = record {
     some = omega arith;
     kinds = λ k l m.
         let e : i ≡ k = omega arith in
-        subst (λ (n : ℕ). mem (Kind n) bodyKinds ≡ true) e (mem-among (Kind i) kinds bodyKinds sub h);
+        subst (λ (n : ℕ). mem (Kind n) body_kinds ≡ true) e (mem_among (Kind i) kinds body_kinds sub h);
   }
 
   joined : {i j k : ℕ} → Spans i j → Spans j k → Spans i k
@@ -63,122 +63,122 @@ module _ (ws : List ℕ) where
   }
 
   -- no word of another kind stands among them, as of a table (2) or an assertion (10)
-  pub other-than : (n k : ℕ) → mem n bodyKinds ≡ false → mem (Kind k) bodyKinds ≡ true → eqb (Kind k) n ≡ false
-  other-than n k f h =
-      otherwise (eqb (Kind k) n) (λ e. true-not-false (subst (λ (x : ℕ). mem x bodyKinds ≡ true) (eqb-true e) h) f)
+  pub other_than : (n k : ℕ) → mem n body_kinds ≡ false → mem (Kind k) body_kinds ≡ true → eqb (Kind k) n ≡ false
+  other_than n k f h =
+      otherwise (eqb (Kind k) n) (λ e. true_not_false (subst (λ (x : ℕ). mem x body_kinds ≡ true) (eqb_true e) h) f)
 
   -- ---- the readers
-  pub only-kind : (n i : ℕ) → mem (Kind i) (n ∷ []) ≡ true → Kind i ≡ n
-  only-kind n i h = elim (mem-cons (Kind i) n [] h) [ inl p ↦ p | inr p ↦ absurd (mem-none (Kind i) p) ]
+  pub only_kind : (n i : ℕ) → mem (Kind i) (n ∷ []) ≡ true → Kind i ≡ n
+  only_kind n i h = elim (mem_cons (Kind i) n [] h) [ inl p ↦ p | inr p ↦ absurd (mem_none (Kind i) p) ]
 
-  pub word-read : (kinds : List ℕ) (i : ℕ) → Gives (λ w. (w ≡ word ws i) × (mem (Kind i) kinds ≡ true)) (wordAt ws kinds i)
-  unfolding wordAt fits
-  word-read kinds i =
-      after (expected (mem (Kind i) kinds && W.spare-clear (word ws i)) 2 i) λ _ e.
-      gives (word ws i) (refl, (and-true (mem (Kind i) kinds) (W.spare-clear (word ws i)) e).0)
+  pub word_read : (kinds : List ℕ) (i : ℕ) → Gives (λ w. (w ≡ word ws i) × (mem (Kind i) kinds ≡ true)) (word_at ws kinds i)
+  unfolding word_at fits
+  word_read kinds i =
+      after (expected (mem (Kind i) kinds && W.spare_clear (word ws i)) 2 i) λ _ e.
+      gives (word ws i) (refl, (and_true (mem (Kind i) kinds) (W.spare_clear (word ws i)) e).0)
 
   -- one operand or two after the word at i
-  one-more : {A B : Type 0} {i : ℕ} (m : Read A) (f : A × ℕ → B) → Spans i (suc i) → Gives (λ r. Spans (suc i) r.1) m
+  one_more : {A B : Type 0} {i : ℕ} (m : Read A) (f : A × ℕ → B) → Spans i (suc i) → Gives (λ r. Spans (suc i) r.1) m
       → Gives {A = B × ℕ} (λ r. Spans i r.1) (m >>> λ r. fine (f r, r.1))
-  one-more m f s g = after g (λ r p. gives (f r, r.1) (joined s p))
+  one_more m f s g = after g (λ r p. gives (f r, r.1) (joined s p))
 
-  two-more : {A B C : Type 0} {i : ℕ} (m : Read A) (k : ℕ → Read B) (f : A × ℕ → B × ℕ → C) → Spans i (suc i)
+  two_more : {A B C : Type 0} {i : ℕ} (m : Read A) (k : ℕ → Read B) (f : A × ℕ → B × ℕ → C) → Spans i (suc i)
       → Gives (λ r. Spans (suc i) r.1) m → ((j : ℕ) → Gives (λ r. Spans j r.1) (k j))
       → Gives {A = C × ℕ} (λ r. Spans i r.1) (m >>> λ r. k r.1 >>> λ q. fine (f r q, q.1))
-  two-more m k f s g h = after g (λ r p. after (h r.1) (λ q n. gives (f r q, q.1) (joined (joined s p) n)))
+  two_more m k f s g h = after g (λ r p. after (h r.1) (λ q n. gives (f r q, q.1) (joined (joined s p) n)))
 
   -- a table that was read at i, up to j
   pub record TableAt (i : ℕ) (t : Table) (j : ℕ) : Type 0 where
     pub kind : Kind i ≡ 2
-    pub defines : W.defined (word ws i) ≡ definedBy t
+    pub defines : W.defined (word ws i) ≡ defined_by t
     pub body : Spans (suc i) j
 
   -- from i on no table word stands, and an assertion at i if anything
   pub record Closing (i : ℕ) : Type 0 where
     pub starts : (length ws ≤ i) ⊎ (Kind i ≡ 10)
-    pub no-table : (k : ℕ) → i ≤ k → k < length ws → eqb (Kind k) 2 ≡ false
+    pub no_table : (k : ℕ) → i ≤ k → k < length ws → eqb (Kind k) 2 ≡ false
 
-  at-end : {i : ℕ} → length ws ≤ i → Closing i
-  at-end l = record { starts = inl l; no-table = λ k h m. let x : ⊥ = omega arith in absurd x }
+  at_end : {i : ℕ} → length ws ≤ i → Closing i
+  at_end l = record { starts = inl l; no_table = λ k h m. let x : ⊥ = omega arith in absurd x }
 
-  before-more : {i j : ℕ} → Kind i ≡ 10 → Spans (suc i) j → Closing j → Closing i
+  before_more : {i j : ℕ} → Kind i ≡ 10 → Spans (suc i) j → Closing j → Closing i
   unfolding mem
-  before-more {i} {j} e s h = record { starts = inr e; no-table = λ k l m. go k l m (dec_le j k) (dec_le (suc i) k) }
+  before_more {i} {j} e s h = record { starts = inr e; no_table = λ k l m. go k l m (dec_le j k) (dec_le (suc i) k) }
     where
       go : (k : ℕ) → i ≤ k → k < length ws → Dec (j ≤ k) → Dec (i < k) → eqb (Kind k) 2 ≡ false
-      go k l m (yes n) o = h.no-table k n m
-      go k l m (no n) (yes o) = other-than 2 k refl (s.kinds k o (omega arith))
+      go k l m (yes n) o = h.no_table k n m
+      go k l m (no n) (yes o) = other_than 2 k refl (s.kinds k o (omega arith))
       go k l m (no n) (no o) = let q : i ≡ k = omega arith in subst (λ (x : ℕ). eqb (Kind x) 2 ≡ false) q (rw e)
 
   module _ (vs : List Variable) where
-    condition-spans : (left i : ℕ) → Gives (λ r. Spans i r.1) (readCondition ws vs left i)
-    unfolding readCondition conditionBy all-of mem
-    condition-spans zero i = past (wordAt ws conditionKinds i) (λ w. stops 4 i)
-    condition-spans (suc left) i =
-        after (word-read conditionKinds i) λ w h.
-        let s = one-word conditionKinds i refl h.1 in
+    condition_spans : (left i : ℕ) → Gives (λ r. Spans i r.1) (read_condition ws vs left i)
+    unfolding read_condition condition_by all_of mem
+    condition_spans zero i = past (word_at ws condition_kinds i) (λ w. stops 4 i)
+    condition_spans (suc left) i =
+        after (word_read condition_kinds i) λ w h.
+        let s = one_word condition_kinds i refl h.1 in
         branches (eqb (W.operands w) 2)
-        (λ _. two-more (readCondition ws vs left (suc i)) (readCondition ws vs left) _ s (condition-spans left (suc i)) (condition-spans left))
-        (λ _. branches (eqb (W.operands w) 1) (λ _. one-more (readCondition ws vs left (suc i)) _ s (condition-spans left (suc i)))
-        (λ _. branches (eqb (W.kind w) 4) (λ _. past (expect (testOk vs w) 3 i) (λ _. gives _ s)) (λ _. gives _ s)))
+        (λ _. two_more (read_condition ws vs left (suc i)) (read_condition ws vs left) _ s (condition_spans left (suc i)) (condition_spans left))
+        (λ _. branches (eqb (W.operands w) 1) (λ _. one_more (read_condition ws vs left (suc i)) _ s (condition_spans left (suc i)))
+        (λ _. branches (eqb (W.kind w) 4) (λ _. past (expect (test_ok vs w) 3 i) (λ _. gives _ s)) (λ _. gives _ s)))
 
-    event-spans : (left i : ℕ) → Gives (λ r. Spans i r.1) (readEvent ws vs left i)
-    unfolding readEvent eventBy all-of mem
-    event-spans zero i = past (wordAt ws eventKinds i) (λ w. stops 4 i)
-    event-spans (suc left) i =
-        after (word-read eventKinds i) λ w h.
-        let s = one-word eventKinds i refl h.1 in
+    event_spans : (left i : ℕ) → Gives (λ r. Spans i r.1) (read_event ws vs left i)
+    unfolding read_event event_by all_of mem
+    event_spans zero i = past (word_at ws event_kinds i) (λ w. stops 4 i)
+    event_spans (suc left) i =
+        after (word_read event_kinds i) λ w h.
+        let s = one_word event_kinds i refl h.1 in
         branches (eqb (W.operands w) 2)
         (λ _. branches (eqb (W.kind w) 7)
-        (λ _. two-more (readEvent ws vs left (suc i)) (readEvent ws vs left) _ s (event-spans left (suc i)) (event-spans left))
+        (λ _. two_more (read_event ws vs left (suc i)) (read_event ws vs left) _ s (event_spans left (suc i)) (event_spans left))
         (λ _. past (expect (within 1 2 (W.sort w)) 3 i) λ _.
-        two-more (readCondition ws vs left (suc i)) (readCondition ws vs left) _ s (condition-spans left (suc i)) (condition-spans left)))
+        two_more (read_condition ws vs left (suc i)) (read_condition ws vs left) _ s (condition_spans left (suc i)) (condition_spans left)))
         (λ _. past (expect (eqb (W.truth w) 0) 3 i) (λ _. gives _ s))
 
     module _ {F : Type 0} (formula : ℕ → Read F) (spans : (i : ℕ) → Gives (λ r. Spans i r.1) (formula i)) (v m : ℕ) where
-      row-spans : (left i : ℕ) → Gives (λ r. Spans i r.1 × (ltb 0 left ≡ true)) (readRow ws vs formula v m left i)
-      unfolding readRow all-of mem
-      row-spans left i =
-          after (word-read (3 ∷ []) i) λ w h.
+      row_spans : (left i : ℕ) → Gives (λ r. Spans i r.1 × (ltb 0 left ≡ true)) (read_row ws vs formula v m left i)
+      unfolding read_row all_of mem
+      row_spans left i =
+          after (word_read (3 ∷ []) i) λ w h.
           after (expected (ltb 0 left) 4 i) λ _ l.
-          past (expect (rowOk vs v m w) 3 i) λ _.
+          past (expect (row_ok vs v m w) 3 i) λ _.
           after (spans (suc i)) λ r p.
-          gives _ (joined (one-word (3 ∷ []) i refl h.1) p, l)
+          gives _ (joined (one_word (3 ∷ []) i refl h.1) p, l)
 
-      rows-span : (left i : ℕ) → Gives (λ r. Spans i r.1) (readRows ws vs formula v m left i)
-      unfolding readRows rowsBy
-      rows-span zero i = after (row-spans 0 i) (λ r h. absurd (true-not-false h.1 refl))
-      rows-span (suc left) i =
-          after (row-spans (suc left) i) λ r h.
-          branches (eqb (Kind r.1) 3) (λ _. after (rows-span left r.1) (λ q k. gives _ (joined h.0 k))) (λ _. gives _ h.0)
+      rows_span : (left i : ℕ) → Gives (λ r. Spans i r.1) (read_rows ws vs formula v m left i)
+      unfolding read_rows rows_by
+      rows_span zero i = after (row_spans 0 i) (λ r h. absurd (true_not_false h.1 refl))
+      rows_span (suc left) i =
+          after (row_spans (suc left) i) λ r h.
+          branches (eqb (Kind r.1) 3) (λ _. after (rows_span left r.1) (λ q k. gives _ (joined h.0 k))) (λ _. gives _ h.0)
 
-    body-spans : (w i : ℕ) → Gives (λ r. (definedBy r.0 ≡ W.defined w) × Spans i r.1) (readBody ws vs w i)
-    unfolding readBody bodyOf definedBy
-    body-spans w i =
+    body_spans : (w i : ℕ) → Gives (λ r. (defined_by r.0 ≡ W.defined w) × Spans i r.1) (read_body ws vs w i)
+    unfolding read_body body_of defined_by
+    body_spans w i =
         branches (eqb (W.sort w) 3)
-        (λ _. after (rows-span (readCondition ws vs Max.max-depth) (condition-spans Max.max-depth) (W.defined w) (W.class-read w) Max.max-rows i) λ r h.
-        gives (condition-table (bodyOf w r.0), r.1) (refl, h))
-        (λ _. after (rows-span (readEvent ws vs Max.max-depth) (event-spans Max.max-depth) (W.defined w) (W.class-read w) Max.max-rows i) λ r h.
-        gives _ (event-defined (eqb (W.sort w) 1) (bodyOf w r.0), h))
+        (λ _. after (rows_span (read_condition ws vs Max.max_depth) (condition_spans Max.max_depth) (W.defined w) (W.class_read w) Max.max_rows i) λ r h.
+        gives (condition_table (body_of w r.0), r.1) (refl, h))
+        (λ _. after (rows_span (read_event ws vs Max.max_depth) (event_spans Max.max_depth) (W.defined w) (W.class_read w) Max.max_rows i) λ r h.
+        gives _ (event_defined (eqb (W.sort w) 1) (body_of w r.0), h))
 
-    pub table-spans : (i : ℕ) (taken lower : Bool)
-        → Gives (λ r. (taken ≡ false) × (lower ≡ false) × (W.defined (word ws i) < length vs) × TableAt i r.0 r.1) (readTable ws vs i taken lower)
-    unfolding readTable
-    table-spans i taken lower =
-        after (word-read (2 ∷ []) i) λ w h.
-        after (expected (tableOk vs w) 3 i) λ _ o.
-        after (expected (tableFits vs w && not taken) 5 i) λ _ e.
+    pub table_spans : (i : ℕ) (taken lower : Bool)
+        → Gives (λ r. (taken ≡ false) × (lower ≡ false) × (W.defined (word ws i) < length vs) × TableAt i r.0 r.1) (read_table ws vs i taken lower)
+    unfolding read_table
+    table_spans i taken lower =
+        after (word_read (2 ∷ []) i) λ w h.
+        after (expected (table_ok vs w) 3 i) λ _ o.
+        after (expected (table_fits vs w && not taken) 5 i) λ _ e.
         after (expected (not lower) 21 i) λ _ f.
-        so (body-spans w (suc i)) λ r b. (
-          not-true taken (and-true (tableFits vs w) (not taken) e).1,
-          not-true lower f,
-          rw h.0 at (defined-below vs w o),
-          record { kind = only-kind 2 i h.1; defines = sym (b.0 ∙ ap W.defined h.0); body = b.1 },
+        so (body_spans w (suc i)) λ r b. (
+          not_true taken (and_true (table_fits vs w) (not taken) e).1,
+          not_true lower f,
+          rw h.0 at (defined_below vs w o),
+          record { kind = only_kind 2 i h.1; defines = sym (b.0 ∙ ap W.defined h.0); body = b.1 },
         )
 
     -- ---- tables one after another
-    pub read-at : (i : ℕ) (t : Table) (j : ℕ) → readTable ws vs i false false ≡ fine (t, j) → TableAt i t j
-    read-at i t j e = (given _ (table-spans i false false) e).3
+    pub read_at : (i : ℕ) (t : Table) (j : ℕ) → read_table ws vs i false false ≡ fine (t, j) → TableAt i t j
+    read_at i t j e = (given _ (table_spans i false false) e).3
 
     -- the tables us are ts and those read from i on
     record Added (i : ℕ) (ts us : List Table) (k : ℕ) : Type 0 where
@@ -186,80 +186,80 @@ module _ (ws : List ℕ) where
       all : us ≡ ts ++ new
       follow : Follow ws vs i new k
 
-    pub untaken : (i : ℕ) (taken lower : Bool) (r : Table × ℕ) → taken ≡ false → lower ≡ false → readTable ws vs i taken lower ≡ fine r
-        → readTable ws vs i false false ≡ fine r
+    pub untaken : (i : ℕ) (taken lower : Bool) (r : Table × ℕ) → taken ≡ false → lower ≡ false → read_table ws vs i taken lower ≡ fine r
+        → read_table ws vs i false false ≡ fine r
     untaken i taken lower r t l e = rw (t, l) at e
 
-    none-added : (i : ℕ) (ts : List Table) → Added i ts ts i
-    none-added i ts = record { new = []; all = sym (append-nil ts); follow = nothing }
+    none_added : (i : ℕ) (ts : List Table) → Added i ts ts i
+    none_added i ts = record { new = []; all = sym (append-nil ts); follow = nothing }
 
-    tables-follow : (left i : ℕ) (ts : List Table) (before : ℕ) → Gives (λ r. Added i ts r.0 r.1) (readTables ws vs left i ts before)
-    unfolding readTables nextTable
-    tables-follow zero i ts before =
+    tables_follow : (left i : ℕ) (ts : List Table) (before : ℕ) → Gives (λ r. Added i ts r.0 r.1) (read_tables ws vs left i ts before)
+    unfolding read_tables next_table
+    tables_follow zero i ts before =
         branches (eqb (Kind i) 2)
-        (λ _. past (nextTable ws vs i ts before) (λ _. stops 5 i))
-        (λ _. gives (ts, i) (none-added i ts))
-    tables-follow (suc left) i ts before =
+        (λ _. past (next_table ws vs i ts before) (λ _. stops 5 i))
+        (λ _. gives (ts, i) (none_added i ts))
+    tables_follow (suc left) i ts before =
         branches (eqb (Kind i) 2)
-        (λ _. after (given-as (table-spans i (hasTable ts (W.defined (word ws i))) (ltb (W.defined (word ws i)) before))) λ r h.
-        so (tables-follow left r.1 (ts ++ (r.0 ∷ [])) (W.defined (word ws i))) λ q a. record {
+        (λ _. after (given_as (table_spans i (has_table ts (W.defined (word ws i))) (ltb (W.defined (word ws i)) before))) λ r h.
+        so (tables_follow left r.1 (ts ++ (r.0 ∷ [])) (W.defined (word ws i))) λ q a. record {
           new = r.0 ∷ a.new;
           all = a.all ∙ append_assoc ts (r.0 ∷ []) a.new;
           follow = more (untaken i _ _ r h.0.0 h.0.1 h.1) a.follow;
         })
-        (λ _. gives (ts, i) (none-added i ts))
+        (λ _. gives (ts, i) (none_added i ts))
 
     -- ---- assertions
-    assertion-closes : (left i : ℕ) → Gives (λ r. (ltb 0 left ≡ true) × (Kind i ≡ 10) × Spans (suc i) r.1) (readAssertion ws vs left i)
-    unfolding readAssertion
-    assertion-closes left i =
-        after (word-read (10 ∷ []) i) λ w h.
+    assertion_closes : (left i : ℕ) → Gives (λ r. (ltb 0 left ≡ true) × (Kind i ≡ 10) × Spans (suc i) r.1) (read_assertion ws vs left i)
+    unfolding read_assertion
+    assertion_closes left i =
+        after (word_read (10 ∷ []) i) λ w h.
         after (expected (ltb 0 left) 4 i) λ _ l.
         past (expect (eqb (W.sort w) 1) 3 i) λ _.
-        so (condition-spans Max.max-depth (suc i)) (λ r s. (l, only-kind 10 i h.1, s))
+        so (condition_spans Max.max_depth (suc i)) (λ r s. (l, only_kind 10 i h.1, s))
 
-    assertions-close : (left i : ℕ) → Gives (λ r. Closing i) (readAssertions ws vs left i)
-    unfolding readAssertions
-    assertions-close zero i =
+    assertions_close : (left i : ℕ) → Gives (λ r. Closing i) (read_assertions ws vs left i)
+    unfolding read_assertions
+    assertions_close zero i =
         decides (leb (length ws) i)
-        (λ _ e. gives ([], i) (at-end (leb-true e)))
-        (λ _ e. after (assertion-closes 0 i) (λ r h. absurd (true-not-false h.0 refl)))
-    assertions-close (suc left) i =
+        (λ _ e. gives ([], i) (at_end (leb_true e)))
+        (λ _ e. after (assertion_closes 0 i) (λ r h. absurd (true_not_false h.0 refl)))
+    assertions_close (suc left) i =
         decides (leb (length ws) i)
-        (λ _ e. gives ([], i) (at-end (leb-true e)))
-        (λ _ e. after (assertion-closes (suc left) i) λ r h.
-        after (assertions-close left r.1) λ q c.
-        gives _ (before-more h.1 h.2 c))
+        (λ _ e. gives ([], i) (at_end (leb_true e)))
+        (λ _ e. after (assertion_closes (suc left) i) λ r h.
+        after (assertions_close left r.1) λ q c.
+        gives _ (before_more h.1 h.2 c))
 
   -- ---- variables
   -- words of variables stand up to the place after them
-  variables-below : (left i : ℕ) (vs : List Variable) → ((k : ℕ) → k < i → Kind k ≡ 1)
-      → Gives (λ r. (k : ℕ) → k < r.1 → Kind k ≡ 1) (readVariables ws left i vs)
-  unfolding readVariables
-  variables-below zero i vs h = branches (eqb (Kind i) 1) (λ _. stops 4 i) (λ _. gives (vs, i) h)
-  variables-below (suc left) i vs h =
+  variables_below : (left i : ℕ) (vs : List Variable) → ((k : ℕ) → k < i → Kind k ≡ 1)
+      → Gives (λ r. (k : ℕ) → k < r.1 → Kind k ≡ 1) (read_variables ws left i vs)
+  unfolding read_variables
+  variables_below zero i vs h = branches (eqb (Kind i) 1) (λ _. stops 4 i) (λ _. gives (vs, i) h)
+  variables_below (suc left) i vs h =
       decides (eqb (Kind i) 1)
-      (λ _ e. past (expect (variableOk (word ws i)) 3 i) λ _. variables-below left (suc i) _ (below-suc h (eqb-true e)))
+      (λ _ e. past (expect (variable_ok (word ws i)) 3 i) λ _. variables_below left (suc i) _ (below_suc h (eqb_true e)))
       (λ _ e. gives (vs, i) h)
 
   -- ---- the whole: variables up to `first`, tables up to `last`, then assertions
   pub record Layout (z : TableSet) : Type 0 where
     pub first : ℕ
     pub last : ℕ
-    pub variables : readVariables ws Max.max-variables 0 [] ≡ fine (z.variables, first)
+    pub variables : read_variables ws Max.max_variables 0 [] ≡ fine (z.variables, first)
     pub low : (k : ℕ) → k < first → Kind k ≡ 1
     pub tables : Follow ws z.variables first z.tables last
     pub closing : Closing last
 
-  pub layout : (z : TableSet) → readWords ws ≡ ok z → Layout z
+  pub layout : (z : TableSet) → read_words ws ≡ ok z → Layout z
   layout z e =
       let s = sections ws z e in
-      let t = given _ (tables-follow z.variables (count z) s.first [] 0) s.tables in
+      let t = given _ (tables_follow z.variables (count z) s.first [] 0) s.tables in
       record {
         first = s.first;
         last = s.last;
         variables = s.variables;
-        low = given _ (variables-below Max.max-variables 0 [] (λ k h. absurd (not-suc-le-zero h))) s.variables;
+        low = given _ (variables_below Max.max_variables 0 [] (λ k h. absurd (not-suc-le-zero h))) s.variables;
         tables = subst (λ (ts : List Table). Follow ws z.variables s.first ts s.last) (sym t.all) t.follow;
-        closing = given _ (assertions-close z.variables Max.max-assertions s.last) s.assertions;
+        closing = given _ (assertions_close z.variables Max.max_assertions s.last) s.assertions;
       }

@@ -12,15 +12,15 @@ Operator k = (5 ≤ k) × (k ≤ 8)
 -- so many formulas follow a word of kind k
 pub data Count : ℕ → ℕ → Type 0 where
   -- "Not has 1; and, or and change have 2;"
-  not-one : Count 5 1
-  and-two : Count 6 2
-  or-two : Count 7 2
-  change-two : Count 8 2
+  not_one : Count 5 1
+  and_two : Count 6 2
+  or_two : Count 7 2
+  change_two : Count 8 2
   -- "a kind that is no operator has 0, rows and assertions too."
-  no-operator : {k : ℕ} → (Operator k → ⊥) → Count k 0
+  no_operator : {k : ℕ} → (Operator k → ⊥) → Count k 0
 
 -- "a table of sixteen entries"
-pub sixteen : length W.operand-counts ≡ 16
+pub sixteen : length W.operand_counts ≡ 16
 sixteen = refl
 
 -- the entries from kind 9 on are zeros, and behind the table nothing follows
@@ -34,14 +34,14 @@ pub counted : (w : ℕ) → Count (W.kind w) (W.operands w)
 unfolding W.operands
 counted w = entry (W.kind w)
   where
-    entry : (k : ℕ) → Count k (get_or W.operand-counts k 0)
-    entry zero = no-operator (λ o. omega (arith, o.0, o.1))
-    entry (suc zero) = no-operator (λ o. omega (arith, o.0, o.1))
-    entry (suc (suc zero)) = no-operator (λ o. omega (arith, o.0, o.1))
-    entry (suc (suc (suc zero))) = no-operator (λ o. omega (arith, o.0, o.1))
-    entry (suc (suc (suc (suc zero)))) = no-operator (λ o. omega (arith, o.0, o.1))
-    entry (suc (suc (suc (suc (suc zero))))) = not-one
-    entry (suc (suc (suc (suc (suc (suc zero)))))) = and-two
-    entry (suc (suc (suc (suc (suc (suc (suc zero))))))) = or-two
-    entry (suc (suc (suc (suc (suc (suc (suc (suc zero)))))))) = change-two
-    entry (suc (suc (suc (suc (suc (suc (suc (suc (suc k))))))))) = rw (rest k) (no-operator {k = suc (suc (suc (suc (suc (suc (suc (suc (suc k))))))))} (λ o. omega (arith, o.0, o.1)))
+    entry : (k : ℕ) → Count k (get_or W.operand_counts k 0)
+    entry zero = no_operator (λ o. omega (arith, o.0, o.1))
+    entry (suc zero) = no_operator (λ o. omega (arith, o.0, o.1))
+    entry (suc (suc zero)) = no_operator (λ o. omega (arith, o.0, o.1))
+    entry (suc (suc (suc zero))) = no_operator (λ o. omega (arith, o.0, o.1))
+    entry (suc (suc (suc (suc zero)))) = no_operator (λ o. omega (arith, o.0, o.1))
+    entry (suc (suc (suc (suc (suc zero))))) = not_one
+    entry (suc (suc (suc (suc (suc (suc zero)))))) = and_two
+    entry (suc (suc (suc (suc (suc (suc (suc zero))))))) = or_two
+    entry (suc (suc (suc (suc (suc (suc (suc (suc zero)))))))) = change_two
+    entry (suc (suc (suc (suc (suc (suc (suc (suc (suc k))))))))) = rw (rest k) (no_operator {k = suc (suc (suc (suc (suc (suc (suc (suc (suc k))))))))} (λ o. omega (arith, o.0, o.1)))

@@ -1,15 +1,15 @@
 use borrow.Author.Rules.{rules}
-use Rattle.assertions.proofs.Laws.{count-start, count-end, count-on, count-all}
+use Rattle.assertions.proofs.Laws.{count_start, count_end, count_on, count_all}
 use Rattle.assertions.proofs.count_assertions.Goals as goal
 
 pub loop-j-init : goal.loop-j-init
-loop-j-init c = (search rules, search count-start)
+loop-j-init c = (search rules, search count_start)
 
 pub returns-then-words-on : goal.returns-then-words-on
-returns-then-words-on c = search count-end
+returns-then-words-on c = search count_end
 
 pub loop-j-preserved : goal.loop-j-preserved
-loop-j-preserved c = (search rules, search count-on)
+loop-j-preserved c = (search rules, search count_on)
 
 pub returns : goal.returns
-returns c = search count-all
+returns c = search count_all

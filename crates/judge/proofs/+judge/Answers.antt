@@ -1,23 +1,23 @@
-use Rattle.judge.proofs.Laws.{judge-laws, operator-laws}
+use Rattle.judge.proofs.Laws.{judge_laws, operator_laws}
 use Rattle.judge.proofs.+judge.Goals as goal
 
 pub judge-returns-then-left-eq0 : goal.judge-returns-then-left-eq0
-judge-returns-then-left-eq0 t c = search judge-laws
+judge-returns-then-left-eq0 t c = search judge_laws
 
 pub judge-returns-then-words-at : goal.judge-returns-then-words-at
-judge-returns-then-words-at t c = search judge-laws
+judge-returns-then-words-at t c = search judge_laws
 
 pub judge-returns-then-kind-eq-TEST : goal.judge-returns-then-kind-eq-TEST
-judge-returns-then-kind-eq-TEST t c = search judge-laws
+judge-returns-then-kind-eq-TEST t c = search judge_laws
 
 pub judge-returns-else-kind-eq-TEST : goal.judge-returns-else-kind-eq-TEST
-judge-returns-else-kind-eq-TEST t c = search judge-laws
+judge-returns-else-kind-eq-TEST t c = search judge_laws
 
 pub judge-returns-else-operands-eq0 : goal.judge-returns-else-operands-eq0
-judge-returns-else-operands-eq0 t c = search judge-laws
+judge-returns-else-operands-eq0 t c = search judge_laws
 
 pub judge_operator-returns-then-operands-eq2 : goal.judge_operator-returns-then-operands-eq2
-judge_operator-returns-then-operands-eq2 t c = search operator-laws
+judge_operator-returns-then-operands-eq2 t c = search operator_laws
 
 pub judge_operator-returns-else-operands-eq2 : goal.judge_operator-returns-else-operands-eq2
-judge_operator-returns-else-operands-eq2 t c = search operator-laws
+judge_operator-returns-else-operands-eq2 t c = search operator_laws

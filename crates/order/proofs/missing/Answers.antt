@@ -1,5 +1,5 @@
-use Rattle.order.proofs.Takes.{missing-is}
+use Rattle.order.proofs.Takes.{missing_is}
 use Rattle.order.proofs.missing.Goals as goal
 
 pub returns : goal.returns
-returns c = search missing-is
+returns c = search missing_is

@@ -1,15 +1,15 @@
 use borrow.Author.Rules.{rules}
-use Rattle.order.proofs.Takes.{least-start, moves-none, moves-on, back-found, back-on, back-none}
+use Rattle.order.proofs.Takes.{least_start, moves_none, moves_on, back_found, back_on, back_none}
 use Rattle.order.proofs.moves_back.Goals as goal
 
 pub loop-k-init : goal.loop-k-init
-loop-k-init c = (search rules, search moves-none, search least-start)
+loop-k-init c = (search rules, search moves_none, search least_start)
 
 pub returns-then-u-w : goal.returns-then-u-w
-returns-then-u-w c = search back-found
+returns-then-u-w c = search back_found
 
 pub loop-k-preserved : goal.loop-k-preserved
-loop-k-preserved c = (search rules, search moves-on, search back-on)
+loop-k-preserved c = (search rules, search moves_on, search back_on)
 
 pub returns : goal.returns
-returns c = search back-none
+returns c = search back_none

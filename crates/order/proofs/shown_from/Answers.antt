@@ -1,12 +1,12 @@
 use borrow.Author.Rules.{rules}
-use Rattle.order.proofs.Takes.{moves-none, moves-on, moves-all}
+use Rattle.order.proofs.Takes.{moves_none, moves_on, moves_all}
 use Rattle.order.proofs.shown_from.Goals as goal
 
 pub loop-i-init : goal.loop-i-init
-loop-i-init c = (search rules, search moves-none)
+loop-i-init c = (search rules, search moves_none)
 
 pub loop-i-preserved : goal.loop-i-preserved
-loop-i-preserved c = (search rules, search moves-on)
+loop-i-preserved c = (search rules, search moves_on)
 
 pub returns : goal.returns
-returns c = search moves-all
+returns c = search moves_all

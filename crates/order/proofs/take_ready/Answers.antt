@@ -1,16 +1,16 @@
 use borrow.Author.Rules.{rules}
 use lib.ListN.{length-set}
-use Rattle.order.proofs.Takes.{mask-start, order-start, mask-on, order-on, mask-stop, order-stop, mask-all, order-all}
+use Rattle.order.proofs.Takes.{mask_start, order_start, mask_on, order_on, mask_stop, order_stop, mask_all, order_all}
 use Rattle.order.proofs.take_ready.Goals as goal
 
 pub loop-i-init : goal.loop-i-init
-loop-i-init c = (search rules, search rules, search mask-start, search order-start)
+loop-i-init c = (search rules, search rules, search mask_start, search order_start)
 
 pub returns-in-Nothing : goal.returns-in-Nothing
-returns-in-Nothing c = record { value = search mask-stop; order_after = search order-stop; order_len = search rules }
+returns-in-Nothing c = record { value = search mask_stop; order_after = search order_stop; order_len = search rules }
 
 pub loop-i-preserved : goal.loop-i-preserved
-loop-i-preserved c = (search rules, simp length-set (search rules), search mask-on, search order-on)
+loop-i-preserved c = (search rules, simp length-set (search rules), search mask_on, search order_on)
 
 pub returns : goal.returns
-returns c = record { value = search mask-all; order_after = search order-all; order_len = search rules }
+returns c = record { value = search mask_all; order_after = search order_all; order_len = search rules }

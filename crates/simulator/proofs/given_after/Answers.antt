@@ -1,11 +1,11 @@
-use Rattle.simulator.proofs.Laws.{after-none, after-condition, after-event}
+use Rattle.simulator.proofs.Laws.{after_none, after_condition, after_event}
 use Rattle.simulator.proofs.given_after.Goals as goal
 
 pub returns-then-p-eq0 : goal.returns-then-p-eq0
-returns-then-p-eq0 c = search after-none
+returns-then-p-eq0 c = search after_none
 
 pub returns-then-sort-eq-CONDITION_TABLE : goal.returns-then-sort-eq-CONDITION_TABLE
-returns-then-sort-eq-CONDITION_TABLE c = search after-condition
+returns-then-sort-eq-CONDITION_TABLE c = search after_condition
 
 pub returns : goal.returns
-returns c = search after-event
+returns c = search after_event

@@ -1,11 +1,11 @@
-use Rattle.simulator.proofs.Laws.{in-none, in-held, in-condition}
+use Rattle.simulator.proofs.Laws.{in_none, in_held, in_condition}
 use Rattle.simulator.proofs.given_in.Goals as goal
 
 pub returns-then-p-eq0 : goal.returns-then-p-eq0
-returns-then-p-eq0 c = search in-none
+returns-then-p-eq0 c = search in_none
 
 pub returns-then-sort-ne-CONDITION_TABLE : goal.returns-then-sort-ne-CONDITION_TABLE
-returns-then-sort-ne-CONDITION_TABLE c = search in-held
+returns-then-sort-ne-CONDITION_TABLE c = search in_held
 
 pub returns : goal.returns
-returns c = search in-condition
+returns c = search in_condition

@@ -3,5 +3,5 @@ use borrow.Author.Rules.{rules}
 use Rattle.word.proofs.class_read.Goals as goal
 
 pub returns : goal.returns
-unfolding F.class-read
+unfolding F.class_read
 returns c = search rules

@@ -1,8 +1,8 @@
-use Rattle.word.proofs.Mask.{kind-below, entry-of, entry-few}
+use Rattle.word.proofs.Mask.{kind_below, entry_of, entry_few}
 use Rattle.word.proofs.operands.Goals as goal
 
 pub bounds-kind : goal.bounds-kind
-bounds-kind c = search kind-below
+bounds-kind c = search kind_below
 
 pub returns : goal.returns
-returns c = record { value = search entry-of; upper_bound = entry-few _ }
+returns c = record { value = search entry_of; upper_bound = entry_few _ }

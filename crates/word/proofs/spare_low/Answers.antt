@@ -1,6 +1,6 @@
-use Rattle.word.proofs.Mask.{low-below}
+use Rattle.word.proofs.Mask.{low_below}
 use mathlib.Core.Path.{refl}
 use Rattle.word.proofs.spare_low.Goals as goal
 
 pub returns : goal.returns
-returns c = (refl, low-below c.args.k)
+returns c = (refl, low_below c.args.k)

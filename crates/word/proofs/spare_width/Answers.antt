@@ -1,6 +1,6 @@
-use Rattle.word.proofs.Mask.{width-below}
+use Rattle.word.proofs.Mask.{width_below}
 use mathlib.Core.Path.{refl}
 use Rattle.word.proofs.spare_width.Goals as goal
 
 pub returns : goal.returns
-returns c = (refl, width-below c.args.k)
+returns c = (refl, width_below c.args.k)

@@ -1,12 +1,12 @@
 use mathlib.Core.Path.{◌≡◌}
 use Prim.Native.Nat.{◌≤◌, ◌-◌}
 use Rattle.word.specs.Limits as Max
-use Rattle.index.specs.Places.{variablesTo}
-use Rattle.reader.specs.Formulas.{rowsReach}
+use Rattle.index.specs.Places.{variables_to}
+use Rattle.reader.specs.Formulas.{rows_reach}
 use Rattle.reader.proofs.rows.read_rows.Given as goal
 
 abbrev pub invariant-loop-i : goal.invariant-loop-i
-invariant-loop-i l = (l.i ≤ Max.max-rows) × (rowsReach l.words (variablesTo l.words l.places l.n) l.t l.v l.m (Max.max-rows - l.i) l.on ≡ rowsReach l.words (variablesTo l.words l.places l.n) l.t l.v l.m Max.max-rows l.at)
+invariant-loop-i l = (l.i ≤ Max.max_rows) × (rows_reach l.words (variables_to l.words l.places l.n) l.t l.v l.m (Max.max_rows - l.i) l.on ≡ rows_reach l.words (variables_to l.words l.places l.n) l.t l.v l.m Max.max_rows l.at)
 
 abbrev pub decreases-loop-i : goal.decreases-loop-i
-decreases-loop-i l = Max.max-rows - l.i
+decreases-loop-i l = Max.max_rows - l.i

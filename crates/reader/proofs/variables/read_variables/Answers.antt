@@ -1,24 +1,24 @@
 use borrow.Author.Rules.{rules}
 use mathlib.Core.Path.{refl}
 use lib.ListN.{length-set}
-use Rattle.index.specs.Places.{variablesTo}
-use Rattle.reader.proofs.VariableLaws.{places-long, places-none, no-tables-on, variables-end, variables-bad, variables-on, variables-over, variables-all}
+use Rattle.index.specs.Places.{variables_to}
+use Rattle.reader.proofs.VariableLaws.{places_long, places_none, no_tables_on, variables_end, variables_bad, variables_on, variables_over, variables_all}
 use Rattle.reader.proofs.variables.read_variables.Goals as goal
 
 pub loop-i-init : goal.loop-i-init
-loop-i-init c = (search rules, search places-long, search places-none, unfold variablesTo in refl)
+loop-i-init c = (search rules, search places_long, search places_none, unfold variables_to in refl)
 
 pub returns-then-kind-ne-VARIABLE : goal.returns-then-kind-ne-VARIABLE
-returns-then-kind-ne-VARIABLE c = search variables-end
+returns-then-kind-ne-VARIABLE c = search variables_end
 
 pub returns-then-not-variable_ok : goal.returns-then-not-variable_ok
-returns-then-not-variable_ok c = search variables-bad
+returns-then-not-variable_ok c = search variables_bad
 
 pub loop-i-preserved : goal.loop-i-preserved
-loop-i-preserved c = (search rules, simp length-set (search rules), search no-tables-on, search variables-on)
+loop-i-preserved c = (search rules, simp length-set (search rules), search no_tables_on, search variables_on)
 
 pub returns-then-kind-eq-VARIABLE : goal.returns-then-kind-eq-VARIABLE
-returns-then-kind-eq-VARIABLE c = search variables-over
+returns-then-kind-eq-VARIABLE c = search variables_over
 
 pub returns : goal.returns
-returns c = search variables-all
+returns c = search variables_all

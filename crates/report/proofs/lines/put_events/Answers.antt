@@ -1,5 +1,5 @@
 use borrow.Author.Rules.{rules}
-use Rattle.report.proofs.Printing.{events-on, events-end}
+use Rattle.report.proofs.Printing.{events_on, events_end}
 use mathlib.Core.Path.{refl}
 use Rattle.report.proofs.lines.put_events.Goals as goal
 
@@ -7,7 +7,7 @@ pub loop-i-init : goal.loop-i-init
 loop-i-init c = (search rules, search rules, refl, refl)
 
 pub loop-i-preserved : goal.loop-i-preserved
-loop-i-preserved c = (search rules, search rules, search rules, search events-on)
+loop-i-preserved c = (search rules, search rules, search rules, search events_on)
 
 pub returns : goal.returns
-returns c = record { puts = search events-end; upper_bound = search rules }
+returns c = record { puts = search events_end; upper_bound = search rules }

@@ -1,5 +1,5 @@
 use borrow.Author.Rules.{rules}
-use Rattle.report.proofs.Printing.{fields-on, fields-end}
+use Rattle.report.proofs.Printing.{fields_on, fields_end}
 use mathlib.Core.Path.{refl}
 use Rattle.report.proofs.lines.put_fields.Goals as goal
 
@@ -7,7 +7,7 @@ pub loop-i-init : goal.loop-i-init
 loop-i-init c = (search rules, search rules, refl, refl)
 
 pub loop-i-preserved : goal.loop-i-preserved
-loop-i-preserved c = (search rules, search rules, search rules, search fields-on)
+loop-i-preserved c = (search rules, search rules, search rules, search fields_on)
 
 pub returns : goal.returns
-returns c = record { puts = search fields-end; upper_bound = search rules }
+returns c = record { puts = search fields_end; upper_bound = search rules }

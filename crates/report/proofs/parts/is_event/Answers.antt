@@ -1,5 +1,5 @@
-use Rattle.report.proofs.Parting.{is-event-is}
+use Rattle.report.proofs.Parting.{is_event_is}
 use Rattle.report.proofs.parts.is_event.Goals as goal
 
 pub returns : goal.returns
-returns c = search is-event-is
+returns c = search is_event_is

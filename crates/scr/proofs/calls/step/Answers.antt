@@ -1,8 +1,8 @@
-use Rattle.scr.proofs.Calling.{step-no-state, step-done}
+use Rattle.scr.proofs.Calling.{step_no_state, step_done}
 use Rattle.scr.proofs.calls.step.Goals as goal
 
 pub returns-then-index-s : goal.returns-then-index-s
-returns-then-index-s c = search step-no-state
+returns-then-index-s c = search step_no_state
 
 pub returns : goal.returns
-returns c = search step-done
+returns c = search step_done

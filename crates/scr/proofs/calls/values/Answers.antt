@@ -1,8 +1,8 @@
-use Rattle.scr.proofs.Calling.{count-room, kept-room, count-no-state, kept-no-state}
+use Rattle.scr.proofs.Calling.{count_room, kept_room, count_no_state, kept_no_state}
 use Rattle.scr.proofs.calls.values.Goals as goal
 
 pub returns-then-out-n : goal.returns-then-out-n
-returns-then-out-n c = record { result_value = search count-room; out_after = search kept-room }
+returns-then-out-n c = record { result_value = search count_room; out_after = search kept_room }
 
 pub returns-then-index-s : goal.returns-then-index-s
-returns-then-index-s c = record { result_value = search count-no-state; out_after = search kept-no-state }
+returns-then-index-s c = record { result_value = search count_no_state; out_after = search kept_no_state }

@@ -1,14 +1,14 @@
-use Rattle.scr.proofs.Opened.{reading-known, open-refused, open-cycle, open-set}
+use Rattle.scr.proofs.Opened.{reading_known, open_refused, open_cycle, open_set}
 use Rattle.scr.proofs.opening.open.Goals as goal
 
 pub reading-requires : goal.reading-requires
-reading-requires c = search reading-known
+reading-requires c = search reading_known
 
 pub returns-in-Refused : goal.returns-in-Refused
-returns-in-Refused c = search open-refused
+returns-in-Refused c = search open_refused
 
 pub returns-in-Cycle : goal.returns-in-Cycle
-returns-in-Cycle c = search open-cycle
+returns-in-Cycle c = search open_cycle
 
 pub returns-in-Set : goal.returns-in-Set
-returns-in-Set c = search open-set
+returns-in-Set c = search open_set

@@ -1,7 +1,7 @@
 use mathlib.Core.Path.{refl}
-use Rattle.scr.specs.Answers.{refusalSays}
+use Rattle.scr.specs.Answers.{refusal_says}
 use Rattle.scr.proofs.refusals.cycle.Goals as goal
 
 pub returns : goal.returns
-unfolding refusalSays
+unfolding refusal_says
 returns c = refl

@@ -1,14 +1,14 @@
-use Rattle.scr.proofs.Performing.{many-answer, many-kept, short-answer, short-kept, state-answer, state-kept, run-answer, run-written}
+use Rattle.scr.proofs.Performing.{many_answer, many_kept, short_answer, short_kept, state_answer, state_kept, run_answer, run_written}
 use Rattle.scr.proofs.runs.run.Goals as goal
 
 pub returns-then-events-gt-MAX_EVENTS : goal.returns-then-events-gt-MAX_EVENTS
-returns-then-events-gt-MAX_EVENTS c = record { result_value = search many-answer; trace_after = search many-kept }
+returns-then-events-gt-MAX_EVENTS c = record { result_value = search many_answer; trace_after = search many_kept }
 
 pub returns-then-room-events : goal.returns-then-room-events
-returns-then-room-events c = record { result_value = search short-answer; trace_after = search short-kept }
+returns-then-room-events c = record { result_value = search short_answer; trace_after = search short_kept }
 
 pub returns-then-index-s : goal.returns-then-index-s
-returns-then-index-s c = record { result_value = search state-answer; trace_after = search state-kept }
+returns-then-index-s c = record { result_value = search state_answer; trace_after = search state_kept }
 
 pub returns : goal.returns
-returns c = record { result_value = search run-answer; trace_after = search run-written }
+returns c = record { result_value = search run_answer; trace_after = search run_written }
