@@ -60,8 +60,8 @@ unfolding refuse_line fields
 refusal_put xs ns fs zs at named on r t q h en ef ez = rw (ez, ef, en, h.number, sub-zero t.count, h.carried) (simp with_then)
 
 -- ---- the lines of events
--- its bytes are few
-event_few : (i w s : ℕ) → i < Max.max_events → s < 2 ^ 32 → length (event_line i w s) ≤ Room.event
+-- the bytes of one whose index a run can have are few
+event_few : (i w s : ℕ) → i < Max.max_events → s < 2 ^ 32 → length (event_line i w s) ≤ Room.short_event
 unfolding event_line fields W.variable W.value
 event_few i w s hi hs =
     simp length-append
@@ -73,8 +73,8 @@ module _ (es xs ys zs : List ℕ) (at on r i s w v k : ℕ) (ew : w ≡ word es 
   unfolding event_line
   event_put = rw (q, e, ev, ek, ew, with_then)
 
-  pub event_room : i < Max.max_events → s < 2 ^ 32 → r ≤ at + Room.event
-  event_room hi hs = omega (arith, event_few i (word es i) s hi hs, puts_place xs zs (event_line i (word es i) s) at r event_put)
+  pub event_short : s < 2 ^ 32 → i < Max.max_events → r ≤ at + Room.short_event
+  event_short hs hi = omega (arith, event_few i (word es i) s hi hs, puts_place xs zs (event_line i (word es i) s) at r event_put)
 
 module _ (es ss xs ys : List ℕ) (at on i : ℕ) (inv : buffer ys on with event_lines i es (drop i ss) ≡ buffer xs at with event_lines 0 es ss) where
   pub events_on : (zs : List ℕ) (r : ℕ) → i < length ss → Puts (event_line i (word es i) (get_or ss i 0)) ys on zs r

@@ -10,7 +10,7 @@ pub const MAX_DIGITS: usize = 20;
 // No state has more: it is a number of 32 bits.
 pub const STATE_DIGITS: usize = 10;
 
-// No index of an event has more, which is below 4,096, and no variable and no value of one, which have 8 bits.
+// No index of an event of a run has more, which is below 4,096, and no variable and no value of an event, which have 8 bits.
 pub const SMALL_DIGITS: usize = 4;
 
 pub fn put(out: &mut [u8], at: usize, byte: u8) -> usize

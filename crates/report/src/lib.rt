@@ -26,7 +26,8 @@ const MAX_INPUT_WORDS: usize = 8192;
 
 pub const MAX_INPUT: usize = MAX_INPUT_WORDS * 4;
 
-// Bytes that are enough, as specs/Room has them: for a blank and a number, for the line of a set or a refusal, and for the line of an event.
+// Bytes that are enough, as specs/Room has them: for a blank and a number, for the line of a set or a refusal, and for the short line of an
+// event of a run.
 const FIELD: usize = MAX_DIGITS + 1;
 
 const LINE: usize = 6 + 7 * FIELD + 1;

@@ -74,11 +74,12 @@ pub fn put_refusal(out: &mut [u8], at: usize, q: Refusal) -> usize
     put_fields(out, on, &carried[0..n])
 }
 
-// The line of event i, after which the state is s. There must be room for four numbers of any length, of which it takes less.
+// The line of event i, after which the state is s.
 fn put_event(out: &mut [u8], at: usize, events: &[u32], i: usize, s: u32) -> usize
-    requires { (at + Room.line ≤ length out.old) × (i < Max.max_events) }
+    requires { at + Room.event ≤ length out.old }
     ensures puts { Puts (P.event_line i (word events.now i) s) out.old at out.new result }
     ensures upper_bound { result ≤ at + Room.event }
+    ensures short { i < Max.max_events → result ≤ at + Room.short_event }
 {
     let w = word_at(events, i);
     let numbers = [variable(w) as u64, value(w) as u64, s as u64];
@@ -88,9 +89,10 @@ fn put_event(out: &mut [u8], at: usize, events: &[u32], i: usize, s: u32) -> usi
 
 // A line for each state reached.
 pub fn put_events(out: &mut [u8], at: usize, events: &[u32], states: &[u32]) -> usize
-    requires { (at + length states.now * Room.event + Room.line ≤ length out.old) × (length states.now ≤ Max.max_events) }
+    requires { Room.EventsFit at (length states.now) (length out.old) }
     ensures puts { Puts (P.event_lines 0 events.now states.now) out.old at out.new result }
     ensures upper_bound { result ≤ at + length states.now * Room.event }
+    ensures short { length states.now ≤ Max.max_events → result ≤ at + length states.now * Room.short_event }
 {
     let mut on = at;
     for i in 0..states.len() {

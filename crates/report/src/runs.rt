@@ -26,9 +26,9 @@ fn done_before(q: Refusal) -> usize
 
 // The lines of a run of a set that passes, by its answer and by the states that it wrote.
 fn put_ran(out: &mut [u8], at: usize, events: &[u32], states: &[u32], answer: Answer) -> usize
-    requires { (at + length states.now * Room.event + Room.line ≤ length out.old) × (length states.now ≤ Max.max_events) }
+    requires { (at + length states.now * Room.short_event + Room.line ≤ length out.old) × (length states.now ≤ Max.max_events) }
     ensures puts { Puts (ran_lines events.now states.now (answer_says answer)) out.old at out.new result }
-    ensures upper_bound { result ≤ at + length states.now * Room.event + Room.line }
+    ensures upper_bound { result ≤ at + length states.now * Room.short_event + Room.line }
 {
     match answer {
         Answer::State(_) => put_events(out, at, events, front(states, events.len())),
