@@ -17,14 +17,14 @@ use word::{
 };
 
 // A formula's truth, and the place after it.
-#[derive(Drop)]
+#[derive(Clone, Copy)]
 pub struct Judged {
     pub value: bool,
     pub next: usize,
 }
 
 // The rows that hold: none, one with the value that it gives, or the lowest two.
-#[derive(Drop)]
+#[derive(Clone, Copy)]
 pub enum Got {
     Nothing,
     One(usize, Value),

@@ -16,7 +16,7 @@ use word::{
 };
 
 // What a formula reads, and the place after it.
-#[derive(Drop)]
+#[derive(Clone, Copy)]
 pub struct Masked {
     pub mask: u32,
     pub next: usize,
@@ -196,7 +196,7 @@ fn ready(masks: &[u32], n: usize, taken: u32, v: usize) -> bool
 }
 
 // The lowest number that passed a test.
-#[derive(Drop)]
+#[derive(Clone, Copy)]
 enum Found {
     At(usize),
     Nothing,
@@ -300,7 +300,7 @@ fn moves_back(masks: &[u32], n: usize, taken: u32, w: usize) -> usize
 }
 
 // Every variable is in the order; or the variable shown and the length of its cycle.
-#[derive(Drop)]
+#[derive(Clone, Copy)]
 pub enum Order {
     All,
     Cycle(usize, usize),

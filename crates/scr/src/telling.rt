@@ -10,7 +10,7 @@ use crate::Refusal;
 pub const MAX_CARRIED: usize = 6;
 
 // The number of a refusal, and what it carries: the first `count` of `carried`.
-#[derive(Drop)]
+#[derive(Clone, Copy)]
 pub struct Told {
     pub number: u32,
     pub carried: [u64; MAX_CARRIED],

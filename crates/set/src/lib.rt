@@ -10,7 +10,7 @@ use order::{Order, order_tables};
 use reader::{Typed, read_typed};
 
 // The number of variables, the place of the first assertion and the number of states; or the refusal.
-#[derive(Drop)]
+#[derive(Clone, Copy)]
 pub enum SetRead {
     Set(usize, usize, u32),
     Refused(u32, usize),

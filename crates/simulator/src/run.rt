@@ -9,7 +9,7 @@ use word::Value;
 
 // How a run ended: with the last state, or at the first event not done, with the state before it, its word and what its step gave. The
 // refusals of a step carry that state and that word's input event.
-#[derive(Drop)]
+#[derive(Clone, Copy)]
 pub enum Ended {
     Last(u32),
     Refused(u32, u32, Stepped),
