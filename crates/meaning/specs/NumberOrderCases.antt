@@ -47,6 +47,9 @@ pub record NumberOrderCases : Type 0 where
   -- the second table; the third, lower than the second and higher than the first
   pub second : start_of (terms (table1 ++ (table0 ++ table2))) ≡ refuse 21 (6 ∷ [])
   pub third : start_of (terms (table0 ++ (table2 ++ table1))) ≡ refuse 21 (9 ∷ [])
+  -- two terms, which document 01 alone lets stand in any order
+  pub two_in_order : start_of (0x13002000 ∷ 0x13002000 ∷ (table0 ++ table1)) ≡ ok 0
+  pub two_turned : start_of (0x13002000 ∷ 0x13002000 ∷ (table1 ++ table0)) ≡ refuse 21 (5 ∷ [])
   -- ---- 2, 3 and 5 at that word come first: a bit that no table word has; type 4; type 1, which a term doesn't have
   pub spare_first : start_of (terms (table2 ++ (0x2301FF01 ∷ row))) ≡ refuse 2 (6 ∷ [])
   pub range_first : start_of (terms (table2 ++ (0x2401FF00 ∷ row))) ≡ refuse 3 (6 ∷ [])
@@ -74,6 +77,8 @@ number_order_cases = record {
   rising = refl;
   second = refl;
   third = refl;
+  two_in_order = refl;
+  two_turned = refl;
   spare_first = refl;
   range_first = refl;
   type_first = refl;
