@@ -3,11 +3,12 @@
 
 rt calls an edit refused if anything in the crate is not proved with it. Each crates/CRATE/must-fail/LABEL.edit says what that must be, in one line:
 
-    must: FILE NAME
+    # must: FILE NAME
 
-FILE is the file, and NAME the definition or the goal in it, that stand first in what rt prints of the edit. This reads what `rt ci` or `rt must-fail` printed
-and asks that every edit has one such line and was refused, without a reservation, by a fact of that name. An error that tells only of a name that is gone, of a
-step that finds nothing to rewrite, or of something that was refused before, is no fact.
+FILE is the file, and NAME the definition or the goal in it, that stand first in what rt prints of the edit. A file that makes several changes at once has a line
+for each, and any of them may stand first. This reads what `rt ci` or `rt must-fail` printed and asks that every edit has such a line and was refused, without a
+reservation, by a fact of that name. An error that tells only of a name that is gone, of a step that finds nothing to rewrite, or of something that was refused
+before, is no fact.
 
     python3 tests/edits/refused.py FILE [CRATE..]      what was printed is in the file, or in standard input if that is -; all crates, or those named
 """
@@ -36,12 +37,15 @@ NO_FACT = (
 
 
 def wanted(text):
-    """The file and the name of the edit's line, and what is wrong with its form."""
-    lines = [line for line in text.splitlines() if line.startswith("must:")]
-    if len(lines) != 1:
-        return None, f"it has {len(lines)} lines 'must: FILE NAME', and not one"
-    parts = re.fullmatch(r"must: (\S+) (\S+)", lines[0])
-    return (parts.groups(), None) if parts else (None, f"not 'must: FILE NAME': {lines[0]}")
+    """The files and names of the edit's lines, and what is wrong with their form."""
+    lines = [line for line in text.splitlines() if line.startswith("# must:")]
+    if not lines:
+        return None, "it has no line '# must: FILE NAME'"
+    facts = [re.fullmatch(r"# must: (\S+) (\S+)", line) for line in lines]
+    for line, fact in zip(lines, facts):
+        if not fact:
+            return None, f"not '# must: FILE NAME': {line}"
+    return [fact.groups() for fact in facts], None
 
 
 def tried(printed):
@@ -54,22 +58,23 @@ def tried(printed):
     return found
 
 
-def wrong(told, file, name):
-    """Why what was printed of an edit is not that the fact `name` of the file refused it, or None."""
+def wrong(told, facts):
+    """Why what was printed of an edit is not that one of the facts, a file and a name, refused it, or None."""
     if not told.startswith(REFUSED):
         return f"rt does not call it refused by a fact: {told[:CUT]}"
     first = told.removeprefix(REFUSED)
     place = re.match(r"(?:note: )?(?:\./)?(\S+?):\d+:\d+: (.*)", first)
-    if not place or place[1] != file:
-        return f"not in {file}: {first}"
+    names = [name for file, name in facts if place and place[1] == file]
+    if not names:
+        return f"not in {' or '.join(file for file, _ in facts)}: {first}"
     if any(it in first for it in NO_FACT):
         return f"no fact: {first}"
     # an error begins with the name, a note of an open goal has it behind what is not proved
     named = re.match(r"error: `(.+)", place[2]) or re.match(r".*?\(`(.+)", place[2])
     found, is_whole, _ = named[1].partition("`") if named else ("", "`", "")
-    if found == name if is_whole else len(first) == CUT and name.startswith(found):
+    if found in names if is_whole else len(first) == CUT and any(name.startswith(found) for name in names):
         return None
-    return f"not by {name}: {first}"
+    return f"not by {' or '.join(names)}: {first}"
 
 
 def main(crates, printed):
@@ -78,10 +83,10 @@ def main(crates, printed):
         crate, label = path.parts[-3], path.stem
         if crates and crate not in crates:
             continue
-        fact, fault = wanted(path.read_text())
+        facts, fault = wanted(path.read_text())
         if not fault:
             told = found.get((crate, label))
-            fault = wrong(told, *fact) if told else "it was not tried"
+            fault = wrong(told, facts) if told else "it was not tried"
         if fault:
             faults.append(f"{crate}/{label}: {fault}")
         else:

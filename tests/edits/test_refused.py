@@ -9,7 +9,7 @@ from pathlib import Path
 import refused
 
 EDIT = """# one
-must: proofs/a/Answers.antt returns
+# must: proofs/a/Answers.antt returns
 file: src/lib.rt
 old: a
 new: b
@@ -25,43 +25,54 @@ def said(first):
 
 class Wanted(unittest.TestCase):
     def test_a_line(self):
-        self.assertEqual(refused.wanted(EDIT), (("proofs/a/Answers.antt", "returns"), None))
+        self.assertEqual(refused.wanted(EDIT), ([("proofs/a/Answers.antt", "returns")], None))
 
-    def test_no_line_or_two(self):
-        for text in (EDIT.replace("must", "may"), EDIT.replace("must", "# must"), EDIT + "must: src/lib.rt returns\n"):
-            self.assertIn("and not one", refused.wanted(text)[1])
+    def test_a_line_for_each_change(self):
+        facts = [("proofs/a/Answers.antt", "returns"), ("src/lib.rt", "returns-then-x")]
+        self.assertEqual(refused.wanted(EDIT + "# must: src/lib.rt returns-then-x\n"), (facts, None))
+
+    def test_no_line(self):
+        for text in (EDIT.replace("must", "may"), EDIT.replace("# must", "must")):
+            self.assertIn("no line", refused.wanted(text)[1])
 
     def test_another_form(self):
-        for line in ("must: returns", "must: label proofs/a/Answers.antt returns", "must:proofs/a/Answers.antt returns"):
-            self.assertIn("not 'must: FILE NAME'", refused.wanted(line)[1])
+        for line in ("# must: returns", "# must: label proofs/a/Answers.antt returns", "# must:proofs/a/Answers.antt returns"):
+            self.assertIn("not '# must: FILE NAME'", refused.wanted(line)[1])
 
 
 class Wrong(unittest.TestCase):
     def test_an_error(self):
-        self.assertIsNone(refused.wrong(said(ERROR), "proofs/a/Answers.antt", "returns"))
+        self.assertIsNone(refused.wrong(said(ERROR), [("proofs/a/Answers.antt", "returns")]))
 
     def test_a_note(self):
-        self.assertIsNone(refused.wrong(said(NOTE), "src/lib.rt", "returns-then-x"))
+        self.assertIsNone(refused.wrong(said(NOTE), [("src/lib.rt", "returns-then-x")]))
+
+    def test_one_of_several(self):
+        facts = [("src/lib.rt", "returns-then-x"), ("proofs/a/Answers.antt", "loop-i-init"), ("proofs/a/Answers.antt", "returns")]
+        for first in (ERROR, NOTE):
+            self.assertIsNone(refused.wrong(said(first), facts))
+        self.assertIn("not by loop-i-init", refused.wrong(said(ERROR), facts[:2]))
+        self.assertIn("not in src/lib.rt", refused.wrong(said(ERROR), facts[:1]))
 
     def test_a_note_that_says_more(self):
         for more in ("; `search` gave up at one of its limits", "; the facts known there allow values (`x` = `0`)"):
-            self.assertIsNone(refused.wrong(said(NOTE + more), "src/lib.rt", "returns-then-x"))
+            self.assertIsNone(refused.wrong(said(NOTE + more), [("src/lib.rt", "returns-then-x")]))
 
     def test_another_name(self):
         for name in ("returns-2", "return", "search"):
-            self.assertIn("not by", refused.wrong(said(ERROR), "proofs/a/Answers.antt", name))
+            self.assertIn("not by", refused.wrong(said(ERROR), [("proofs/a/Answers.antt", name)]))
         for name in ("returns-then-x-2", "returns-then", "returns"):
-            self.assertIn("not by", refused.wrong(said(NOTE), "src/lib.rt", name))
+            self.assertIn("not by", refused.wrong(said(NOTE), [("src/lib.rt", name)]))
 
     def test_another_file(self):
-        self.assertIn("not in", refused.wrong(said(ERROR), "proofs/b/Answers.antt", "returns"))
-        self.assertIn("not in", refused.wrong(said(NOTE), "src/other.rt", "returns-then-x"))
+        self.assertIn("not in", refused.wrong(said(ERROR), [("proofs/b/Answers.antt", "returns")]))
+        self.assertIn("not in", refused.wrong(said(NOTE), [("src/other.rt", "returns-then-x")]))
 
     def test_a_name_that_is_cut(self):
         long = NOTE.replace("returns-then-x", "returns-then-" + "x" * 90)
-        self.assertIsNone(refused.wrong(said(long), "src/lib.rt", "returns-then-" + "x" * 90))
-        self.assertIn("not by", refused.wrong(said(long), "src/lib.rt", "returns-else-" + "x" * 90))
-        self.assertIn("not by", refused.wrong(said(long), "src/lib.rt", "returns-then"))
+        self.assertIsNone(refused.wrong(said(long), [("src/lib.rt", "returns-then-" + "x" * 90)]))
+        self.assertIn("not by", refused.wrong(said(long), [("src/lib.rt", "returns-else-" + "x" * 90)]))
+        self.assertIn("not by", refused.wrong(said(long), [("src/lib.rt", "returns-then")]))
 
     def test_no_name(self):
         for first in (
@@ -69,11 +80,11 @@ class Wrong(unittest.TestCase):
             NOTE[: NOTE.index("returns-then-x")],
             "note: src/lib.rt:9:1: " + "it is not proved " * 20 + "(`returns`)",
         ):
-            self.assertIsNotNone(refused.wrong(said(first), first.removeprefix("note: ").partition(":")[0], "returns"))
+            self.assertIsNotNone(refused.wrong(said(first), [(first.removeprefix("note: ").partition(":")[0], "returns")]))
 
     def test_no_fact(self):
         for why in ("`p` was not admitted", "`true` is not in scope", "it has no `returns` that can be named", "`rw`: no occurrence of the path's left endpoint"):
-            self.assertIn("no fact", refused.wrong(said(f"proofs/a/Answers.antt:7:13: error: `returns`: {why}"), "proofs/a/Answers.antt", "returns"))
+            self.assertIn("no fact", refused.wrong(said(f"proofs/a/Answers.antt:7:13: error: `returns`: {why}"), [("proofs/a/Answers.antt", "returns")]))
 
     def test_not_refused_by_a_fact(self):
         for told in (
@@ -84,7 +95,7 @@ class Wrong(unittest.TestCase):
             "BAD EDIT: an 'old:' text is in src/lib.rt 0 times, and not once",
             "NOT TRIED: its check was killed, most likely for memory, so nothing is known of it: run this again",
         ):
-            self.assertIn("rt does not call it", refused.wrong(told, "proofs/a/Answers.antt", "returns"))
+            self.assertIn("rt does not call it", refused.wrong(told, [("proofs/a/Answers.antt", "returns")]))
 
 
 class Main(unittest.TestCase):
