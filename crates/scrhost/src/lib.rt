@@ -1,4 +1,4 @@
-// The machine host: check and step over bytes, for C. include/scr.h declares both functions.
+// The machine host: check and step over bytes. scrhost_c hands both functions to C.
 #![tactic(auto)]
 
 mod numbers; // answers as numbers
@@ -16,8 +16,7 @@ use words::{copy_words, fits};
 const LENGTH: u32 = 1;
 
 // 0, or the number of the refusal.
-#[unsafe(no_mangle)]
-pub extern "C" fn scr_check(bytes: &[u8]) -> u32
+pub fn scr_check(bytes: &[u8]) -> u32
     ensures { result ≡ host_check_of bytes.now }
 {
     if !fits(bytes.len()) {
@@ -30,8 +29,7 @@ pub extern "C" fn scr_check(bytes: &[u8]) -> u32
 }
 
 // The next state, or 2^31 plus the number of the refusal.
-#[unsafe(no_mangle)]
-pub extern "C" fn scr_step(bytes: &[u8], state: u32, event: u32) -> u32
+pub fn scr_step(bytes: &[u8], state: u32, event: u32) -> u32
     ensures { result ≡ host_step_of bytes.now state event }
 {
     if !fits(bytes.len()) {
