@@ -1,7 +1,7 @@
 #!/usr/bin/env python3
 """Asks of every must-fail edit whether the fact that it names is what refused it.
 
-rt calls an edit refused if anything in the crate is not proved with it. Each crates/CRATE/must-fail/LABEL.edit says what that must be, in one line:
+rt calls an edit refused if anything in the crate is not proved with it. Each crates/CRATE/must-fail/LABEL.edit says what that must be, in a line:
 
     # must: FILE NAME
 
