@@ -5,8 +5,8 @@ rt calls an edit refused if anything in the crate is not proved with it. Each cr
 
     # must: FILE NAME
 
-FILE is the file, and NAME the definition or the goal in it, that stand first in what rt prints of the edit. A file that makes several changes at once has a line
-for each, and any of them may stand first. This reads what `rt ci` or `rt must-fail` printed and asks that every edit has such a line and was refused, without a
+FILE is the file, and NAME the definition or the goal in it, that stand first in what rt prints of the edit. A file whose LABEL is a number makes several changes
+at once and has a line for each, of which any may stand first; every other file has one line. This reads what `rt ci` or `rt must-fail` printed and asks that every edit has such a line and was refused, without a
 reservation, by a fact of that name. An error that tells only of a name that is gone, of a step that finds nothing to rewrite, or of something that was refused
 before, is no fact.
 
@@ -36,11 +36,11 @@ NO_FACT = (
 )
 
 
-def wanted(text):
+def wanted(label, text):
     """The files and names of the edit's lines, and what is wrong with their form."""
     lines = [line for line in text.splitlines() if line.startswith("# must:")]
-    if not lines:
-        return None, "it has no line '# must: FILE NAME'"
+    if not lines or len(lines) > 1 and not label.isdigit():
+        return None, f"it has {len(lines)} lines '# must: FILE NAME', and not one"
     facts = [re.fullmatch(r"# must: (\S+) (\S+)", line) for line in lines]
     for line, fact in zip(lines, facts):
         if not fact:
@@ -83,7 +83,7 @@ def main(crates, printed):
         crate, label = path.parts[-3], path.stem
         if crates and crate not in crates:
             continue
-        facts, fault = wanted(path.read_text())
+        facts, fault = wanted(label, path.read_text())
         if not fault:
             told = found.get((crate, label))
             fault = wrong(told, facts) if told else "it was not tried"

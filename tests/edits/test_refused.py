@@ -25,19 +25,21 @@ def said(first):
 
 class Wanted(unittest.TestCase):
     def test_a_line(self):
-        self.assertEqual(refused.wanted(EDIT), ([("proofs/a/Answers.antt", "returns")], None))
+        self.assertEqual(refused.wanted("label", EDIT), ([("proofs/a/Answers.antt", "returns")], None))
 
     def test_a_line_for_each_change(self):
         facts = [("proofs/a/Answers.antt", "returns"), ("src/lib.rt", "returns-then-x")]
-        self.assertEqual(refused.wanted(EDIT + "# must: src/lib.rt returns-then-x\n"), (facts, None))
+        self.assertEqual(refused.wanted("1", EDIT + "# must: src/lib.rt returns-then-x\n"), (facts, None))
 
-    def test_no_line(self):
+    def test_no_line_or_two(self):
+        for text in (EDIT.replace("must", "may"), EDIT.replace("# must", "must"), EDIT + "# must: src/lib.rt returns\n"):
+            self.assertIn("and not one", refused.wanted("label", text)[1])
         for text in (EDIT.replace("must", "may"), EDIT.replace("# must", "must")):
-            self.assertIn("no line", refused.wanted(text)[1])
+            self.assertIn("and not one", refused.wanted("1", text)[1])
 
     def test_another_form(self):
         for line in ("# must: returns", "# must: label proofs/a/Answers.antt returns", "# must:proofs/a/Answers.antt returns"):
-            self.assertIn("not '# must: FILE NAME'", refused.wanted(line)[1])
+            self.assertIn("not '# must: FILE NAME'", refused.wanted("label", line)[1])
 
 
 class Wrong(unittest.TestCase):
