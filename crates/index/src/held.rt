@@ -3,7 +3,7 @@ ghost use Rattle.std.specs.Prelude.{◌≡◌, get_or};
 ghost use Rattle.index.specs.Held.{held_at, radix_at};
 
 use crate::{number_at, place_of, word_at, word_of};
-use word::{CONDITION_TABLE, size, sort};
+use word::{TableType, size, sort};
 
 // "Variables without a condition table are held". A table word stands right before the place of its first row.
 pub fn is_held(words: &[u32], places: &[usize], v: usize) -> bool
@@ -13,7 +13,7 @@ pub fn is_held(words: &[u32], places: &[usize], v: usize) -> bool
     if p == 0 {
         return true;
     }
-    sort(word_at(words, p - 1)) != CONDITION_TABLE
+    sort(word_at(words, p - 1)) != TableType::Condition as u32
 }
 
 // How many values v adds to a state: 1 where it is not held.

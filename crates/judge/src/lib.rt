@@ -12,8 +12,8 @@ ghost use Rattle.judge.specs.Judge.{joined_by, judge_by, judge_at, changed_by, c
 
 use index::{value_of, word_at};
 use word::{
-    AND, BECOMES_TRUE, EQUALS, EVERY_MODE, MAX_DEPTH, MAX_ROWS, OR, ROW, TEST, Value, given, kind,
-    mode, operands, relation, sort, truth, variable,
+    Change, EVERY_MODE, Kind, MAX_DEPTH, MAX_ROWS, Relation, Value, given, kind, mode, operands,
+    relation, sort, truth, variable,
 };
 
 // A formula's truth, and the place after it.
@@ -38,7 +38,7 @@ fn holds(w: u32, values: &[Value]) -> bool
 {
     let x = value_of(values, variable(w) as usize);
     let k = given(w);
-    if relation(w) == EQUALS {
+    if relation(w) == Relation::Equals as u32 {
         x == k
     } else {
         x <= k
@@ -49,7 +49,7 @@ fn holds(w: u32, values: &[Value]) -> bool
 fn joined(k: u32, a: bool, b: bool) -> bool
     ensures { result ≡ joined_by k a b }
 {
-    if k == AND { a & b } else { a | b }
+    if k == Kind::And as u32 { a & b } else { a | b }
 }
 
 // The condition at a place, at most `left` levels deep.
@@ -72,7 +72,7 @@ pub fn judge(words: &[u32], values: &[Value], at: usize, left: usize) -> Judged
     let w = word_at(words, at);
     let d = left - 1;
     if operands(w) == 0 {
-        if kind(w) == TEST {
+        if kind(w) == Kind::Test as u32 {
             Judged {
                 value: holds(w, values),
                 next: at + 1,
@@ -117,7 +117,7 @@ fn judge_operator(words: &[u32], values: &[Value], w: u32, at: usize, left: usiz
 fn changed(s: u32, old: bool, new: bool, when: bool) -> bool
     ensures { result ≡ changed_by s old new when }
 {
-    if s == BECOMES_TRUE {
+    if s == Change::BecomesTrue as u32 {
         (!old & new) & when
     } else {
         (old & !new) & when
@@ -171,7 +171,7 @@ pub fn judge_event(
     let d = left - 1;
     match operands(w) {
         2 => {
-            if kind(w) == OR {
+            if kind(w) == Kind::Or as u32 {
                 let a = judge_event(words, before, after, on, d);
                 let b = judge_event(words, before, after, a.next, d);
                 Judged {
@@ -223,7 +223,7 @@ fn with_row(got: Got, w: u32, x: u32, truth: bool, i: usize) -> Got
 fn is_row(words: &[u32], at: usize) -> bool
     ensures { result ≡ eqb (W.kind (word words.now at)) 3 }
 {
-    kind(word_at(words, at)) == ROW
+    kind(word_at(words, at)) == Kind::Row as u32
 }
 
 // The rows of a condition table that hold at the values. The first row stands at `at`, `mode` is the value of the class read.

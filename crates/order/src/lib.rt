@@ -11,8 +11,8 @@ ghost use Rattle.order.specs.Orders.{covered, untaken_by, ready_by, least_ready,
 use index::bits::{bit, mask_of, one_bit};
 use index::{place_of, word_at};
 use word::{
-    CONDITION_TABLE, CYCLE_MOVES, MAX_DEPTH, MAX_ROWS, MAX_VARIABLES, OR, ROW, TEST, class_read,
-    kind, operands, sort, variable,
+    CYCLE_MOVES, Kind, MAX_DEPTH, MAX_ROWS, MAX_VARIABLES, TableType, class_read, kind, operands,
+    sort, variable,
 };
 
 // What a formula reads, and the place after it.
@@ -47,7 +47,7 @@ pub fn condition_mask(words: &[u32], at: usize, left: usize) -> Masked
         }
         1 => condition_mask(words, on, d),
         _ => {
-            if kind(w) == TEST {
+            if kind(w) == Kind::Test as u32 {
                 Masked {
                     mask: one_bit(variable(w) as usize),
                     next: on,
@@ -74,7 +74,7 @@ pub fn event_mask(words: &[u32], at: usize, left: usize) -> Masked
     let d = left - 1;
     match operands(w) {
         2 => {
-            if kind(w) == OR {
+            if kind(w) == Kind::Or as u32 {
                 let a = event_mask(words, on, d);
                 let b = event_mask(words, a.next, d);
                 Masked {
@@ -98,7 +98,7 @@ pub fn event_mask(words: &[u32], at: usize, left: usize) -> Masked
 fn formula_mask(words: &[u32], t: u32, at: usize) -> Masked
     ensures { result ≡ formula_mask words.now t at }
 {
-    if t == CONDITION_TABLE {
+    if t == TableType::Condition as u32 {
         condition_mask(words, at, MAX_DEPTH)
     } else {
         event_mask(words, at, MAX_DEPTH)
@@ -119,7 +119,7 @@ fn rows_mask(words: &[u32], t: u32, at: usize, first: u32) -> u32
         mask = mask | j.mask;
         on = j.next;
         let w = word_at(words, on);
-        if kind(w) != ROW {
+        if kind(w) != Kind::Row as u32 {
             return mask;
         }
     }
@@ -136,7 +136,7 @@ fn table_mask(words: &[u32], places: &[usize], v: usize) -> u32
     }
     let w = word_at(words, p - 1);
     let t = sort(w);
-    if t == CONDITION_TABLE {
+    if t == TableType::Condition as u32 {
         let c = class_read(w) as usize;
         rows_mask(words, t, p, one_bit(c))
     } else {

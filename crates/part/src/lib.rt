@@ -6,20 +6,20 @@ ghost use Rattle.meaning.specs.Calls.{is_table_of, ends_table};
 ghost use Rattle.part.specs.Part.{start_at, end_at};
 
 use index::word_at;
-use word::{ASSERTION, TABLE, defined, kind};
+use word::{Kind, defined, kind};
 
 fn is_table(words: &[u32], variable: u32, i: usize) -> bool
     ensures { result ≡ is_table_of words.now variable i }
 {
     let w = word_at(words, i);
-    (kind(w) == TABLE) & (defined(w) == variable)
+    (kind(w) == Kind::Table as u32) & (defined(w) == variable)
 }
 
 fn ends_table(words: &[u32], i: usize) -> bool
     ensures { result ≡ ends_table words.now i }
 {
     let k = kind(word_at(words, i));
-    (k == TABLE) | (k == ASSERTION)
+    (k == Kind::Table as u32) | (k == Kind::Assertion as u32)
 }
 
 // The place of the table word of a variable, or the number of words.

@@ -7,7 +7,7 @@ ghost use Rattle.index.specs.Places.{variables_to, reach};
 use crate::formulas::read_condition;
 use crate::tests::{fault, fits_kind};
 use index::{Reached, word_at};
-use word::{ASSERTION, MAX_ASSERTIONS, MAX_DEPTH, OF_STATES, sort};
+use word::{AssertionType, Kind, MAX_ASSERTIONS, MAX_DEPTH, sort};
 
 // One assertion; `left` of them may still stand, this one included.
 fn read_assertion(words: &[u32], places: &[usize], n: usize, left: usize, at: usize) -> Reached
@@ -17,9 +17,9 @@ fn read_assertion(words: &[u32], places: &[usize], n: usize, left: usize, at: us
         return Reached::Refused(2, at);
     }
     let w = word_at(words, at);
-    let fits = fits_kind(w, ASSERTION);
+    let fits = fits_kind(w, Kind::Assertion as u32);
     let s = sort(w);
-    let k = fault(fits, 0 < left, s == OF_STATES, true);
+    let k = fault(fits, 0 < left, s == AssertionType::OfStates as u32, true);
     if k != 0 {
         return Reached::Refused(k, at);
     }

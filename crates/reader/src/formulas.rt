@@ -9,7 +9,7 @@ ghost use Rattle.reader.specs.Formulas.{change_reach};
 
 use crate::tests::{fits_condition, fits_event, test_ok, within};
 use index::{Reached, word_at};
-use word::{BECOMES_FALSE, BECOMES_TRUE, OR, TEST, kind, operands, sort, truth};
+use word::{Change, Kind, kind, operands, sort, truth};
 
 pub fn read_condition(words: &[u32], places: &[usize], n: usize, at: usize, left: usize) -> Reached
     ensures { result ≡ reach (R.read_condition words.now (variables_to words.now places.now n) left at) }
@@ -36,7 +36,7 @@ pub fn read_condition(words: &[u32], places: &[usize], n: usize, at: usize, left
         }
         1 => return read_condition(words, places, n, on, less),
         _ => {
-            if kind(w) == TEST {
+            if kind(w) == Kind::Test as u32 {
                 if test_ok(words, places, n, w) {
                     return Reached::Next(on);
                 }
@@ -75,14 +75,18 @@ pub fn read_event(words: &[u32], places: &[usize], n: usize, at: usize, left: us
     let less = left - 1;
     match operands(w) {
         2 => {
-            if kind(w) == OR {
+            if kind(w) == Kind::Or as u32 {
                 let first = read_event(words, places, n, on, less);
                 match first {
                     Reached::Next(j) => return read_event(words, places, n, j, less),
                     Reached::Refused(k, i) => return Reached::Refused(k, i),
                 }
             }
-            if within(BECOMES_TRUE, BECOMES_FALSE, sort(w)) {
+            if within(
+                Change::BecomesTrue as u32,
+                Change::BecomesFalse as u32,
+                sort(w),
+            ) {
                 return read_change(words, places, n, on, less);
             }
             return Reached::Refused(3, at);

@@ -7,13 +7,13 @@ ghost use Rattle.reader.specs.Formulas.{formula_reach, row_reach, rows_reach};
 use crate::formulas::{read_condition, read_event};
 use crate::tests::{fault, fits_kind, row_ok};
 use index::{Reached, word_at};
-use word::{CONDITION_TABLE, MAX_DEPTH, MAX_ROWS, ROW, kind};
+use word::{Kind, MAX_DEPTH, MAX_ROWS, TableType, kind};
 
 // The formula of a row.
 fn read_formula(words: &[u32], places: &[usize], n: usize, t: u32, at: usize) -> Reached
     ensures { result ≡ formula_reach words.now (variables_to words.now places.now n) t at }
 {
-    if t == CONDITION_TABLE {
+    if t == TableType::Condition as u32 {
         read_condition(words, places, n, at, MAX_DEPTH)
     } else {
         read_event(words, places, n, at, MAX_DEPTH)
@@ -37,7 +37,7 @@ fn read_row(
         return Reached::Refused(2, at);
     }
     let w = word_at(words, at);
-    let fits = fits_kind(w, ROW);
+    let fits = fits_kind(w, Kind::Row as u32);
     let ranged = row_ok(words, places, n, v, m, w);
     let k = fault(fits, 0 < left, ranged, true);
     if k != 0 {
@@ -65,7 +65,7 @@ pub fn read_rows(
             Reached::Refused(k, x) => return Reached::Refused(k, x),
             Reached::Next(j) => {
                 let w = word_at(words, j);
-                if kind(w) != ROW {
+                if kind(w) != Kind::Row as u32 {
                     return Reached::Next(j);
                 }
                 on = j;

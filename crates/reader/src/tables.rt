@@ -7,7 +7,7 @@ ghost use Rattle.reader.specs.Tables.{next_place, read_places};
 use crate::rows::read_rows;
 use crate::tests::{fault, fits_kind, table_fits, table_ok};
 use index::{Reached, place_of, word_at};
-use word::{TABLE, class_read, defined, kind, sort};
+use word::{Kind, class_read, defined, kind, sort};
 
 // A table with its rows, behind one for variable `before` (0 for none: no variable is lower). `places` has, by variable, the place of the
 // first row of each table so far, 0 for none.
@@ -18,7 +18,7 @@ fn read_table(words: &[u32], places: &[usize], n: usize, at: usize, before: usiz
         return Reached::Refused(2, at);
     }
     let w = word_at(words, at);
-    let fits = fits_kind(w, TABLE);
+    let fits = fits_kind(w, Kind::Table as u32);
     let ranged = table_ok(words, places, n, at);
     let suited = table_fits(words, places, n, at);
     let v = defined(w) as usize;
@@ -49,7 +49,7 @@ pub fn read_tables(words: &[u32], places: &mut [usize], n: usize, at: usize) -> 
             return Reached::Next(on);
         }
         let w = word_at(words, on);
-        if kind(w) != TABLE {
+        if kind(w) != Kind::Table as u32 {
             return Reached::Next(on);
         }
         let table = read_table(words, &places[..], n, on, before);
@@ -64,7 +64,7 @@ pub fn read_tables(words: &[u32], places: &mut [usize], n: usize, at: usize) -> 
         }
     }
     let w = word_at(words, on);
-    if kind(w) != TABLE {
+    if kind(w) != Kind::Table as u32 {
         return Reached::Next(on);
     }
     let table = read_table(words, &places[..], n, on, before);

@@ -7,9 +7,8 @@ ghost use Rattle.reader.specs.Formulas.{fault_of};
 
 use index::{class_of, size_of, word_at};
 use word::{
-    AND, AT_MOST, CHANGE, CONDITION_TABLE, CONSTANT, CONTROLLED, EVERY_MODE, MAX_MODES, MAX_SIZE,
-    MIN_SIZE, MODE_CLASS, MODE_TABLE, MONITORED, NO_CLASS, NOT, OR, TERM, TEST, class_read,
-    defined, initial, kind, mode, relation, size, sort, spare_clear, value, variable,
+    Class, EVERY_MODE, Kind, MAX_MODES, MAX_SIZE, MIN_SIZE, NO_CLASS, Relation, TableType,
+    class_read, defined, initial, kind, mode, relation, size, sort, spare_clear, value, variable,
 };
 
 pub fn within(low: u32, high: u32, a: u32) -> bool
@@ -33,7 +32,10 @@ pub fn fits_condition(w: u32) -> bool
 {
     let k = kind(w);
     let clear = spare_clear(w);
-    ((k == TEST) | ((k == NOT) | ((k == AND) | ((k == OR) | (k == CONSTANT))))) & clear
+    ((k == Kind::Test as u32)
+        | ((k == Kind::Not as u32)
+            | ((k == Kind::And as u32) | ((k == Kind::Or as u32) | (k == Kind::Constant as u32)))))
+        & clear
 }
 
 pub fn fits_event(w: u32) -> bool
@@ -41,7 +43,7 @@ pub fn fits_event(w: u32) -> bool
 {
     let k = kind(w);
     let clear = spare_clear(w);
-    ((k == OR) | ((k == CHANGE) | (k == CONSTANT))) & clear
+    ((k == Kind::Or as u32) | ((k == Kind::Change as u32) | (k == Kind::Constant as u32))) & clear
 }
 
 // The number of a word's refusal, 0 for none. In this order: does it fit its place (2), is there room for it (4), are its fields in
@@ -71,9 +73,9 @@ pub fn variable_ok(w: u32) -> bool
     let class = sort(w);
     let n = size(w);
     let first = initial(w);
-    let known = within(MONITORED, CONTROLLED, class);
+    let known = within(Class::Monitored as u32, Class::Controlled as u32, class);
     let sized = within(MIN_SIZE, MAX_SIZE, n);
-    ((known & sized) & ((class != MODE_CLASS) | (n <= MAX_MODES))) & (first < n)
+    ((known & sized) & ((class != Class::ModeClass as u32) | (n <= MAX_MODES))) & (first < n)
 }
 
 // Are the fields of a test word in range?
@@ -84,7 +86,7 @@ pub fn test_ok(words: &[u32], places: &[usize], n: usize, w: u32) -> bool
     let how = relation(w);
     let k = value(w);
     let values = size_of(words, places, n, v);
-    ((v < n) & (how <= AT_MOST)) & (k < values)
+    ((v < n) & (how <= Relation::AtMost as u32)) & (k < values)
 }
 
 // Are the fields of a row word in range, in the table for v that reads class m?
@@ -103,7 +105,7 @@ pub fn table_ok(words: &[u32], places: &[usize], n: usize, at: usize) -> bool
     ensures { result ≡ R.table_ok (variables_to words.now places.now n) (R.word words.now at) }
 {
     let w = word_at(words, at);
-    let known = within(MODE_TABLE, CONDITION_TABLE, sort(w));
+    let known = within(TableType::Mode as u32, TableType::Condition as u32, sort(w));
     let v = defined(w) as usize;
     let m = class_read(w) as usize;
     (known & (v < n)) & ((m == NO_CLASS) | (m < n))
@@ -118,9 +120,9 @@ pub fn table_fits(words: &[u32], places: &[usize], n: usize, at: usize) -> bool
     let m = class_read(w) as usize;
     let class = class_of(words, places, n, v);
     let read = class_of(words, places, n, m);
-    if sort(w) == MODE_TABLE {
-        (class == MODE_CLASS) & (m == v)
+    if sort(w) == TableType::Mode as u32 {
+        (class == Class::ModeClass as u32) & (m == v)
     } else {
-        (TERM <= class) & ((m == NO_CLASS) | (read == MODE_CLASS))
+        (Class::Term as u32 <= class) & ((m == NO_CLASS) | (read == Class::ModeClass as u32))
     }
 }

@@ -6,7 +6,7 @@ ghost use Rattle.reader.specs.Typed.{no_places};
 use crate::Words;
 use crate::tests::variable_ok;
 use index::word_at;
-use word::{MAX_VARIABLES, VARIABLE, kind};
+use word::{Kind, MAX_VARIABLES, kind};
 
 // The number of variables and the place after them. Each bit of a variable word is named, so that none is refused by 2; one too many is
 // refused by 4, whatever its fields are. The place of each variable's word goes behind the places of tables.
@@ -16,7 +16,7 @@ pub fn read_variables(words: &[u32], places: &mut [usize]) -> Words
 {
     for i in 0..MAX_VARIABLES {
         let w = word_at(words, i);
-        if kind(w) != VARIABLE {
+        if kind(w) != Kind::Variable as u32 {
             return Words::Read(i, i);
         }
         if !variable_ok(w) {
@@ -25,7 +25,7 @@ pub fn read_variables(words: &[u32], places: &mut [usize]) -> Words
         places[MAX_VARIABLES + i] = i;
     }
     let w = word_at(words, MAX_VARIABLES);
-    if kind(w) == VARIABLE {
+    if kind(w) == Kind::Variable as u32 {
         return Words::Wrong(4, MAX_VARIABLES);
     }
     Words::Read(MAX_VARIABLES, MAX_VARIABLES)

@@ -4,12 +4,12 @@ ghost use Rattle.meaning.specs.Program.{first_event};
 ghost use Rattle.report.specs.Input.{is_event};
 
 use index::word_at;
-use word::{INPUT_EVENT, kind};
+use word::{Kind, kind};
 
 fn is_event(words: &[u32], i: usize) -> bool
     ensures { result ≡ is_event words.now i }
 {
-    kind(word_at(words, i)) == INPUT_EVENT
+    kind(word_at(words, i)) == Kind::InputEvent as u32
 }
 
 // The place of the first word of kind 11, or the number of words.

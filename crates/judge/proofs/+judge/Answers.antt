@@ -7,11 +7,11 @@ judge-returns-then-left-eq0 t c = search judge_laws
 pub judge-returns-then-words-at : goal.judge-returns-then-words-at
 judge-returns-then-words-at t c = search judge_laws
 
-pub judge-returns-then-kind-eq-TEST : goal.judge-returns-then-kind-eq-TEST
-judge-returns-then-kind-eq-TEST t c = search judge_laws
+pub judge-returns-then-kind : goal.judge-returns-then-kind
+judge-returns-then-kind t c = search judge_laws
 
-pub judge-returns-else-kind-eq-TEST : goal.judge-returns-else-kind-eq-TEST
-judge-returns-else-kind-eq-TEST t c = search judge_laws
+pub judge-returns-else-kind : goal.judge-returns-else-kind
+judge-returns-else-kind t c = search judge_laws
 
 pub judge-returns-else-operands-eq0 : goal.judge-returns-else-operands-eq0
 judge-returns-else-operands-eq0 t c = search judge_laws

@@ -13,8 +13,8 @@ returns-in-2 t c = search condition_laws
 pub returns-in-1 : goal.returns-in-1
 returns-in-1 t c = search condition_laws
 
-pub returns-then-kind-eq-TEST : goal.returns-then-kind-eq-TEST
-returns-then-kind-eq-TEST t c = search condition_laws
+pub returns-then-kind : goal.returns-then-kind
+returns-then-kind t c = search condition_laws
 
-pub returns-else-kind-eq-TEST : goal.returns-else-kind-eq-TEST
-returns-else-kind-eq-TEST t c = search condition_laws
+pub returns-else-kind : goal.returns-else-kind
+returns-else-kind t c = search condition_laws

@@ -9,8 +9,8 @@ loop-i-init c = (search rules, refl)
 pub returns-then-words-on : goal.returns-then-words-on
 returns-then-words-on c = search rows_past
 
-pub returns-then-kind-ne-ROW : goal.returns-then-kind-ne-ROW
-returns-then-kind-ne-ROW c = search rows_last
+pub returns-then-kind : goal.returns-then-kind
+returns-then-kind c = search rows_last
 
 pub loop-i-preserved : goal.loop-i-preserved
 loop-i-preserved c = (search rules, search rows_on)

@@ -22,8 +22,8 @@ returns-in-1 t c = search conditions
 pub returns-then-test_ok : goal.returns-then-test_ok
 returns-then-test_ok t c = search conditions
 
-pub returns-then-kind-eq-TEST : goal.returns-then-kind-eq-TEST
-returns-then-kind-eq-TEST t c = search conditions
+pub returns-then-kind : goal.returns-then-kind
+returns-then-kind t c = search conditions
 
 pub returns-in_default : goal.returns-in_default
 returns-in_default t c = search conditions

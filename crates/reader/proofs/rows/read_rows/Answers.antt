@@ -9,14 +9,14 @@ loop-i-init c = (search rules, refl)
 pub returns-in-Refused : goal.returns-in-Refused
 returns-in-Refused c = search rows_refused
 
-pub returns-then-kind-ne-ROW : goal.returns-then-kind-ne-ROW
-returns-then-kind-ne-ROW c = search rows_end
+pub returns-then-kind : goal.returns-then-kind
+returns-then-kind c = search rows_end
 
 pub loop-i-preserved : goal.loop-i-preserved
 loop-i-preserved c = (
   search rules,
   rows_on _ _ _ _ _ _ _ _ _ _ _ _ c.in-Next.is c.read_row-row.ensures c.word_at-w.ensures
-      c.kind.ensures c.if-kind-ne-ROW.false (search rules) (search rules),
+      c.kind.ensures c.if-kind.false (search rules) (search rules),
 )
 
 pub returns : goal.returns
