@@ -1,18 +1,15 @@
 -- Laws of read_condition, read_change and read_event, one for each way out.
-use mathlib.Core.Path.{◌≡◌, refl, sym, ap, ◌∙◌}
-use mathlib.Core.Bool.{Bool, true, false, not}
-use mathlib.Core.List.{List}
-use Prim.Native.Nat.{ℕ, zero, suc, ◌+◌, ◌-◌, ◌≤◌}
-use native.Mathlib.Numerals.{sub-one, add-one}
-use lib.ListN.{length}
-use borrow.Author.Tests.{ne_eqb, not-true, not-false}
+use Rattle.std.specs.Prelude.{◌≡◌, refl, Bool, true, false, not, List, ℕ, zero, suc, ◌+◌, ◌-◌, ◌≤◌, length, Result, Ok, Err}
+use Rattle.std.proofs.Common.{sym, ap, ◌∙◌, sub-one, add-one, ne_eqb}
+use borrow.Author.Tests.{not-true, not-false}
 use Rattle.word.specs.Fields as W
 use Rattle.meaning.specs.Searches.{mem, within}
 use Rattle.meaning.specs.Syntax.{Variable}
 use Rattle.meaning.specs.Reading.{word, fits, test_ok, condition_kinds, event_kinds, condition_by, event_by, word_at, read_condition, read_event}
-use Rattle.index.specs.declared.Reached.{Reached}
-use Rattle.index.specs.declared.Reached.TheVariants.{Next, Refused}
-use Rattle.index.specs.Places.{reach, then_at}
+use Rattle.index.specs.Places.{Refused, Reached, reach, then_at}
+use Rattle.reader.specs.declared.faults.Fault.{Fault}
+use Rattle.reader.specs.declared.faults.Fault.TheVariants.{Kind, Range, Limit}
+use Rattle.reader.specs.Faults.{refusal, carried, reached}
 use Rattle.reader.specs.Formulas.{change_reach}
 use Rattle.reader.proofs.TestLaws.{kind_past}
 use Rattle.reader.proofs.Answers.{made_reach, two_reach, then_next, then_stop}
@@ -31,16 +28,17 @@ condition_unroll ws vs zero at e nz = absurd (nz refl)
 condition_unroll ws vs (suc n) at e nz = rw (e, sub-one (suc n))
 
 module _ (ws : List ℕ) (vs : List Variable) (n at : ℕ) where
-  pub condition_past : length ws ≤ at → Refused 2 at ≡ reach (read_condition ws vs n at)
-  unfolding fits mem
+  pub condition_past : length ws ≤ at → reached (Err (Kind at)) ≡ reach (read_condition ws vs n at)
+  unfolding fits mem reached refusal carried
   condition_past h = condition_unfit ws vs n at (rw (kind_past ws at h))
 
   module _ (w : ℕ) (f : Bool) (ew : w ≡ word ws at) (ef : f ≡ fits condition_kinds w) where
-    pub condition_bad : not f ≡ true → Refused 2 at ≡ reach (read_condition ws vs n at)
+    pub condition_bad : not f ≡ true → reached (Err (Kind at)) ≡ reach (read_condition ws vs n at)
+    unfolding reached refusal carried
     condition_bad e = condition_unfit ws vs n at (rw (← ew, ← ef) (not-true f e))
 
-    pub condition_deep : not f ≡ false → n ≡ 0 → Refused 4 at ≡ reach (read_condition ws vs n at)
-    unfolding read_condition reach word_at
+    pub condition_deep : not f ≡ false → n ≡ 0 → reached (Err (Limit at)) ≡ reach (read_condition ws vs n at)
+    unfolding read_condition reach word_at reached refusal carried
     condition_deep e z = let g : fits condition_kinds (word ws at) ≡ true = rw (← ew, ← ef) (not-false f e) in rw (z, g)
 
     -- a word w is there that a condition may start with, and o operands follow it
@@ -49,51 +47,51 @@ module _ (ws : List ℕ) (vs : List Variable) (n at : ℕ) where
       arm r er = er ∙ ap reach (rw ew (condition_unroll ws vs n at (rw (← ew, ← ef) (not-false f e)) nz))
 
       module _ (k : ℕ) (n2 : o ≡ 2 → ⊥) (n1 : o ≡ 1 → ⊥) (ek : k ≡ W.kind w) where
-        pub condition_test : (b : Bool) → k ≡ 4 → b ≡ test_ok vs w → b ≡ true → Next (at + 1) ≡ reach (read_condition ws vs n at)
-        unfolding condition_by reach
+        pub condition_test : (b : Bool) → k ≡ 4 → b ≡ test_ok vs w → b ≡ true → reached (Ok (at + 1)) ≡ reach (read_condition ws vs n at)
+        unfolding condition_by reach reached
         condition_test b e4 eb t = arm _ (rw (← eo, ne_eqb o 2 n2, ne_eqb o 1 n1, ← ek, e4, ← eb, t, add-one at))
 
-        pub condition_range : (b : Bool) → k ≡ 4 → b ≡ test_ok vs w → b ≡ false → Refused 3 at ≡ reach (read_condition ws vs n at)
-        unfolding condition_by reach
+        pub condition_range : (b : Bool) → k ≡ 4 → b ≡ test_ok vs w → b ≡ false → reached (Err (Range at)) ≡ reach (read_condition ws vs n at)
+        unfolding condition_by reach reached refusal carried
         condition_range b e4 eb t = arm _ (rw (← eo, ne_eqb o 2 n2, ne_eqb o 1 n1, ← ek, e4, ← eb, t))
 
-        pub condition_constant : (k ≡ 4 → ⊥) → Next (at + 1) ≡ reach (read_condition ws vs n at)
-        unfolding condition_by reach
+        pub condition_constant : (k ≡ 4 → ⊥) → reached (Ok (at + 1)) ≡ reach (read_condition ws vs n at)
+        unfolding condition_by reach reached
         condition_constant n4 = arm _ (rw (← eo, ne_eqb o 2 n2, ne_eqb o 1 n1, ← ek, ne_eqb k 4 n4, add-one at))
 
-      pub condition_not : (a : Reached) → o ≡ 1 → a ≡ reach (read_condition ws vs (n - 1) (at + 1))
-          → a ≡ reach (read_condition ws vs n at)
+      pub condition_not : (a : Result ℕ Fault) → o ≡ 1 → reached a ≡ reach (read_condition ws vs (n - 1) (at + 1))
+          → reached a ≡ reach (read_condition ws vs n at)
       unfolding condition_by
       condition_not a e1 ea =
-          arm a (rw (← eo, e1) (ea ∙ rw (add-one at) (sym (made_reach (read_condition ws vs (n - 1) (suc at)) _))))
+          arm _ (rw (← eo, e1) (ea ∙ rw (add-one at) (sym (made_reach (read_condition ws vs (n - 1) (suc at)) _))))
 
-      module _ (e2 : o ≡ 2) (a : Reached) (ea : a ≡ reach (read_condition ws vs (n - 1) (at + 1))) where
-        two : (r : Reached) → r ≡ then_at a (λ j. reach (read_condition ws vs (n - 1) j)) → r ≡ reach (read_condition ws vs n at)
+      module _ (e2 : o ≡ 2) (a : Result ℕ Fault) (ea : reached a ≡ reach (read_condition ws vs (n - 1) (at + 1))) where
+        two : (r : Reached) → r ≡ then_at (reached a) (λ j. reach (read_condition ws vs (n - 1) j)) → r ≡ reach (read_condition ws vs n at)
         unfolding condition_by
         two r er =
             arm r
             (rw (← eo, e2)
             (er ∙ rw (ea, add-one at) (sym (two_reach (read_condition ws vs (n - 1) (suc at)) (read_condition ws vs (n - 1)) _))))
 
-        pub condition_both : (b : Reached) (j : ℕ) → a ≡ Next j → b ≡ reach (read_condition ws vs (n - 1) j)
-            → b ≡ reach (read_condition ws vs n at)
-        condition_both b j an eb = two b (then_next a _ b j an eb)
+        pub condition_both : (b : Result ℕ Fault) (j : ℕ) → a ≡ Ok j → reached b ≡ reach (read_condition ws vs (n - 1) j)
+            → reached b ≡ reach (read_condition ws vs n at)
+        condition_both b j an eb = two _ (then_next a _ _ j an eb)
 
-        pub condition_stop : (q i : ℕ) → a ≡ Refused q i → Refused q i ≡ reach (read_condition ws vs n at)
-        condition_stop q i an = two _ (then_stop a _ q i an)
+        pub condition_stop : (q : Fault) → a ≡ Err q → reached (Err q) ≡ reach (read_condition ws vs n at)
+        condition_stop q an = two _ (then_stop a _ q an)
 
 pub ruleset conditions =
     (condition_past, condition_bad, condition_deep, condition_test, condition_range, condition_constant, condition_not, condition_both, condition_stop)
 
 -- ---- the two conditions of a change
-module _ (ws : List ℕ) (vs : List Variable) (n at : ℕ) (a : Reached) (ea : a ≡ reach (read_condition ws vs n at)) where
-  pub change_both : (b : Reached) (j : ℕ) → a ≡ Next j → b ≡ reach (read_condition ws vs n j) → b ≡ change_reach ws vs n at
+module _ (ws : List ℕ) (vs : List Variable) (n at : ℕ) (a : Result ℕ Fault) (ea : reached a ≡ reach (read_condition ws vs n at)) where
+  pub change_both : (b : Result ℕ Fault) (j : ℕ) → a ≡ Ok j → reached b ≡ reach (read_condition ws vs n j) → reached b ≡ change_reach ws vs n at
   unfolding change_reach
-  change_both b j an eb = then_next _ _ b j (sym ea ∙ an) eb
+  change_both b j an eb = rw (← ea) (then_next a _ _ j an eb)
 
-  pub change_stop : (q i : ℕ) → a ≡ Refused q i → Refused q i ≡ change_reach ws vs n at
+  pub change_stop : (q : Fault) → a ≡ Err q → reached (Err q) ≡ change_reach ws vs n at
   unfolding change_reach
-  change_stop q i an = then_stop _ _ q i (sym ea ∙ an)
+  change_stop q an = rw (← ea) (then_stop a _ q an)
 
 -- ---- events
 event_unfit : (ws : List ℕ) (vs : List Variable) (n at : ℕ) → fits event_kinds (word ws at) ≡ false
@@ -109,16 +107,17 @@ event_unroll ws vs zero at e nz = absurd (nz refl)
 event_unroll ws vs (suc n) at e nz = rw (e, sub-one (suc n))
 
 module _ (ws : List ℕ) (vs : List Variable) (n at : ℕ) where
-  pub event_past : length ws ≤ at → Refused 2 at ≡ reach (read_event ws vs n at)
-  unfolding fits mem
+  pub event_past : length ws ≤ at → reached (Err (Kind at)) ≡ reach (read_event ws vs n at)
+  unfolding fits mem reached refusal carried
   event_past h = event_unfit ws vs n at (rw (kind_past ws at h))
 
   module _ (w : ℕ) (f : Bool) (ew : w ≡ word ws at) (ef : f ≡ fits event_kinds w) where
-    pub event_bad : not f ≡ true → Refused 2 at ≡ reach (read_event ws vs n at)
+    pub event_bad : not f ≡ true → reached (Err (Kind at)) ≡ reach (read_event ws vs n at)
+    unfolding reached refusal carried
     event_bad e = event_unfit ws vs n at (rw (← ew, ← ef) (not-true f e))
 
-    pub event_deep : not f ≡ false → n ≡ 0 → Refused 4 at ≡ reach (read_event ws vs n at)
-    unfolding read_event reach word_at
+    pub event_deep : not f ≡ false → n ≡ 0 → reached (Err (Limit at)) ≡ reach (read_event ws vs n at)
+    unfolding read_event reach word_at reached refusal carried
     event_deep e z = let g : fits event_kinds (word ws at) ≡ true = rw (← ew, ← ef) (not-false f e) in rw (z, g)
 
     module _ (o : ℕ) (e : not f ≡ false) (nz : n ≡ 0 → ⊥) (eo : o ≡ W.operands w) where
@@ -126,37 +125,37 @@ module _ (ws : List ℕ) (vs : List Variable) (n at : ℕ) where
           → r ≡ reach (read_event ws vs n at)
       event_arm r er = er ∙ ap reach (rw ew (event_unroll ws vs n at (rw (← ew, ← ef) (not-false f e)) nz))
 
-      pub event_never : (v : ℕ) → (o ≡ 2 → ⊥) → v ≡ W.truth w → v ≡ 0 → Next (at + 1) ≡ reach (read_event ws vs n at)
-      unfolding event_by reach
+      pub event_never : (v : ℕ) → (o ≡ 2 → ⊥) → v ≡ W.truth w → v ≡ 0 → reached (Ok (at + 1)) ≡ reach (read_event ws vs n at)
+      unfolding event_by reach reached
       event_never v n2 ev z = event_arm _ (rw (← eo, ne_eqb o 2 n2, ← ev, z, add-one at))
 
-      pub event_true : (v : ℕ) → (o ≡ 2 → ⊥) → v ≡ W.truth w → (v ≡ 0 → ⊥) → Refused 3 at ≡ reach (read_event ws vs n at)
-      unfolding event_by reach
+      pub event_true : (v : ℕ) → (o ≡ 2 → ⊥) → v ≡ W.truth w → (v ≡ 0 → ⊥) → reached (Err (Range at)) ≡ reach (read_event ws vs n at)
+      unfolding event_by reach reached refusal carried
       event_true v n2 ev z = event_arm _ (rw (← eo, ne_eqb o 2 n2, ← ev, ne_eqb v 0 z))
 
-      module _ (k : ℕ) (e2 : o ≡ 2) (ek : k ≡ W.kind w) (e7 : k ≡ 7) (a : Reached) (ea : a ≡ reach (read_event ws vs (n - 1) (at + 1))) where
-        two_events : (r : Reached) → r ≡ then_at a (λ j. reach (read_event ws vs (n - 1) j)) → r ≡ reach (read_event ws vs n at)
+      module _ (k : ℕ) (e2 : o ≡ 2) (ek : k ≡ W.kind w) (e7 : k ≡ 7) (a : Result ℕ Fault) (ea : reached a ≡ reach (read_event ws vs (n - 1) (at + 1))) where
+        two_events : (r : Reached) → r ≡ then_at (reached a) (λ j. reach (read_event ws vs (n - 1) j)) → r ≡ reach (read_event ws vs n at)
         unfolding event_by
         two_events r er =
             event_arm r
             (rw (← eo, e2, ← ek, e7) (er ∙ rw (ea, add-one at) (sym (two_reach (read_event ws vs (n - 1) (suc at)) (read_event ws vs (n - 1)) _))))
 
-        pub event_both : (b : Reached) (j : ℕ) → a ≡ Next j → b ≡ reach (read_event ws vs (n - 1) j)
-            → b ≡ reach (read_event ws vs n at)
-        event_both b j an eb = two_events b (then_next a _ b j an eb)
+        pub event_both : (b : Result ℕ Fault) (j : ℕ) → a ≡ Ok j → reached b ≡ reach (read_event ws vs (n - 1) j)
+            → reached b ≡ reach (read_event ws vs n at)
+        event_both b j an eb = two_events _ (then_next a _ _ j an eb)
 
-        pub event_stop : (q i : ℕ) → a ≡ Refused q i → Refused q i ≡ reach (read_event ws vs n at)
-        event_stop q i an = two_events _ (then_stop a _ q i an)
+        pub event_stop : (q : Fault) → a ≡ Err q → reached (Err q) ≡ reach (read_event ws vs n at)
+        event_stop q an = two_events _ (then_stop a _ q an)
 
       module _ (k s : ℕ) (b : Bool) (e2 : o ≡ 2) (ek : k ≡ W.kind w) (n7 : k ≡ 7 → ⊥) (es : s ≡ W.sort w) (eb : b ≡ within 1 2 s) where
-        pub event_sort : b ≡ false → Refused 3 at ≡ reach (read_event ws vs n at)
-        unfolding event_by reach
+        pub event_sort : b ≡ false → reached (Err (Range at)) ≡ reach (read_event ws vs n at)
+        unfolding event_by reach reached refusal carried
         event_sort t = event_arm _ (rw (← eo, e2, ← ek, ne_eqb k 7 n7, ← es, ← eb, t))
 
-        pub event_change : (r : Reached) → b ≡ true → r ≡ change_reach ws vs (n - 1) (at + 1) → r ≡ reach (read_event ws vs n at)
+        pub event_change : (r : Result ℕ Fault) → b ≡ true → reached r ≡ change_reach ws vs (n - 1) (at + 1) → reached r ≡ reach (read_event ws vs n at)
         unfolding event_by change_reach
         event_change r t er =
-            event_arm r
+            event_arm _
             (rw (← eo, e2, ← ek, ne_eqb k 7 n7, ← es, ← eb, t)
             (er ∙ rw (add-one at) (sym (two_reach (read_condition ws vs (n - 1) (suc at)) (read_condition ws vs (n - 1)) _))))
 

@@ -1,6 +1,6 @@
 mod TestLaws
 mod Answers
-mod Faults
+mod WordLaws
 mod VariableLaws
 mod FormulaLaws
 mod RowLaws

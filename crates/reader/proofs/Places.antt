@@ -1,15 +1,9 @@
 -- What the places of the tables say of the tables that the meaning reads.
-use mathlib.Core.Path.{◌≡◌, refl, sym, ap, ◌∙◌}
-use mathlib.Core.Option.{Option, none, some}
-use mathlib.Core.Bool.{Bool, true, false, not, ◌&&◌}
-use mathlib.Core.List.{List, [], ◌∷◌, ◌++◌}
-use Prim.Native.Nat.{ℕ, zero, suc, ◌≤◌, ◌<◌}
-use native.Mathlib.Omega.{arith}
+use Rattle.std.specs.Prelude.{◌≡◌, refl, Bool, true, false, not, ◌&&◌, List, [], ◌∷◌, ◌++◌, ℕ, zero, suc, ◌≤◌, ◌<◌, eqb, length, get_or, set, Ok, Err}
+use Rattle.std.proofs.Math.Option.{Option, none, some}
+use Rattle.std.proofs.Common.{sym, ap, ◌∙◌, arith, length-set, get_or-set_same, get_or-set_other, ne_eqb, eq-eqb}
 use native.Mathlib.Decide.{ℕ_discrete}
-use lib.Dec.{eqb}
-use lib.ListN.{length, get_or, set, length-set}
-use lib.Seq.{get_or-set_same, get_or-set_other}
-use borrow.Author.Tests.{ne_eqb, eq-eqb, not-true}
+use borrow.Author.Tests.{not-true}
 use Rattle.word.specs.Fields as W
 use Rattle.word.specs.Limits as Max
 use Rattle.meaning.specs.Answers.{fine, stop, ◌>>>◌, expect, if◌give◌else◌}
@@ -20,9 +14,10 @@ use Rattle.theory.specs.Tests.{and_true}
 use Rattle.theory.specs.Readers.{word_then}
 use Rattle.theory.specs.TablesRead.{defined_below}
 use Rattle.theory.specs.Found.{fine_same, then_fine, expect_fine}
-use Rattle.index.specs.declared.Reached.TheVariants.{Next, Refused}
 use Rattle.index.specs.Places.{told, place_count}
 use Rattle.index.specs.Indexed.{Placed, absent, there}
+use Rattle.reader.specs.declared.faults.Fault.{Fault}
+use Rattle.reader.specs.Faults.{refusal, carried, reached}
 use Rattle.reader.specs.Tables.{is_placed, next_place, read_places}
 use Rattle.reader.specs.Variables.{NoTables}
 use Rattle.reader.proofs.TableLaws.{condition_rows, event_rows, condition_table_read, event_table_read}
@@ -210,18 +205,18 @@ module _ (ws : List ℕ) (vs : List Variable) (few : length vs ≤ Max.max_varia
     agreed n i = agree n i [] p₀ 0 len at_first
 
     -- what the answer of read_tables and what it wrote say of the meaning
-    pub tables_stopped : (n i k x : ℕ) (ps : List ℕ) → told (Refused k x) ps ≡ read_places ws vs n i p₀ 0
-        → read_tables ws vs n i [] 0 ≡ stop k x
-    unfolding told
-    tables_stopped n i k x ps e = go (read_tables ws vs n i [] 0) (rw (← e) at (agreed n i))
+    pub tables_stopped : (n i : ℕ) (f : Fault) (ps : List ℕ) → told (reached (Err f)) ps ≡ read_places ws vs n i p₀ 0
+        → read_tables ws vs n i [] 0 ≡ stop (refusal f) (carried f)
+    unfolding told reached
+    tables_stopped n i f ps e = go (read_tables ws vs n i [] 0) (rw (← e) at (agreed n i))
       where
-        go : (m : Read (List Table)) → Agree ws vs m (stop k x) → m ≡ stop k x
+        go : (m : Read (List Table)) → Agree ws vs m (stop (refusal f) (carried f)) → m ≡ stop (refusal f) (carried f)
         go (stop l y) (p, q) = rw (p, q)
         go (fine a) h = absurd h
 
-    pub tables_read : (n i j : ℕ) (ps : List ℕ) → told (Next j) ps ≡ read_places ws vs n i p₀ 0
+    pub tables_read : (n i j : ℕ) (ps : List ℕ) → told (reached (Ok j)) ps ≡ read_places ws vs n i p₀ 0
         → (ts : List Table) × (read_tables ws vs n i [] 0 ≡ fine (ts, j)) × Places ws vs ts ps
-    unfolding told
+    unfolding told reached
     tables_read n i j ps e = go (read_tables ws vs n i [] 0) (rw (← e) at (agreed n i))
       where
         go : (m : Read (List Table)) → Agree ws vs m (fine (ps, j))

@@ -1,36 +1,30 @@
 -- Laws of read_formula, read_row and read_rows, one for each way out.
-use mathlib.Core.Path.{◌≡◌, refl, sym, ap, ◌∙◌}
-use mathlib.Core.Bool.{Bool, true, false}
-use mathlib.Core.List.{List, [], ◌∷◌}
-use Prim.Native.Nat.{ℕ, suc, ◌+◌, ◌-◌, ◌≤◌, ◌<◌}
-use native.Mathlib.Omega.{arith}
-use native.Mathlib.Numerals.{add-one}
-use lib.Dec.{eqb, ltb}
-use lib.ListN.{length}
-use borrow.Author.Tests.{ne_eqb}
+use Rattle.std.specs.Prelude.{◌≡◌, refl, Bool, true, false, List, [], ◌∷◌, ℕ, suc, ◌+◌, ◌-◌, ◌≤◌, ◌<◌, eqb, ltb, length, Result, Ok, Err}
+use Rattle.std.proofs.Common.{sym, ap, ◌∙◌, arith, add-one, ne_eqb}
 use Rattle.word.specs.Fields as W
 use Rattle.word.specs.Limits as Max
-use Rattle.meaning.specs.Answers.{fine, ◌>>>◌, if◌give◌else◌}
+use Rattle.meaning.specs.Answers.{Parse, fine, ◌>>>◌, if◌give◌else◌}
 use Rattle.meaning.specs.Searches.{mem}
 use Rattle.meaning.specs.Syntax.{Condition, Event, Variable, Row}
 use Rattle.meaning.specs.Reading.{Read, word, fits, row_ok, row_of, rows_by, read_condition, read_event, read_row, read_rows}
 use Rattle.theory.specs.Loops.{left}
-use Rattle.index.specs.declared.Reached.{Reached}
-use Rattle.index.specs.declared.Reached.TheVariants.{Next, Refused}
-use Rattle.index.specs.Places.{reach, then_at}
-use Rattle.reader.specs.Formulas.{fault_of, by_type, formula_reach, row_reach, rows_reach}
+use Rattle.index.specs.Places.{Reached, Next, reach, then_at}
+use Rattle.reader.specs.declared.faults.Fault.{Fault}
+use Rattle.reader.specs.declared.faults.Fault.TheVariants.{Kind}
+use Rattle.reader.specs.Faults.{refusal, carried, reached, tested, word_tests}
+use Rattle.reader.specs.Formulas.{by_type, formula_reach, row_reach, rows_reach}
 use Rattle.reader.proofs.TestLaws.{kind_past}
 use Rattle.reader.proofs.Answers.{then_reach, made_reach, then_next, then_stop}
 use Rattle.theory.specs.Readers.{word_then}
-use Rattle.reader.proofs.Faults.{tested, tested_refused, tested_passed}
+use Rattle.reader.proofs.WordLaws.{tested_then, tested_refused, tested_passed}
 
 -- ---- the formula of a row
-module _ (ws : List ℕ) (vs : List Variable) (t at : ℕ) (r : Reached) where
-  pub formula_condition : t ≡ 3 → r ≡ reach (read_condition ws vs Max.max_depth at) → r ≡ formula_reach ws vs t at
+module _ (ws : List ℕ) (vs : List Variable) (t at : ℕ) (r : Result ℕ Fault) where
+  pub formula_condition : t ≡ 3 → reached r ≡ reach (read_condition ws vs Max.max_depth at) → reached r ≡ formula_reach ws vs t at
   unfolding formula_reach
   formula_condition e er = rw e er
 
-  pub formula_event : (t ≡ 3 → ⊥) → r ≡ reach (read_event ws vs Max.max_depth at) → r ≡ formula_reach ws vs t at
+  pub formula_event : (t ≡ 3 → ⊥) → reached r ≡ reach (read_event ws vs Max.max_depth at) → reached r ≡ formula_reach ws vs t at
   unfolding formula_reach
   formula_event n er = rw (ne_eqb t 3 n) er
 
@@ -41,7 +35,7 @@ row_then false r j = Next j
 
 module _ (ws : List ℕ) (vs : List Variable) {F : Type 0} (formula : ℕ → Read F) (v m : ℕ) where
   row_tested : (l at : ℕ) → reach (read_row ws vs formula v m l at)
-      ≡ reach (tested (fits (3 ∷ []) (word ws at)) (ltb 0 l) (row_ok vs v m (word ws at)) true at
+      ≡ reach (tested_then (fits (3 ∷ []) (word ws at)) (ltb 0 l) (row_ok vs v m (word ws at)) true at
       (formula (suc at) >>> λ r. fine (row_of (word ws at) r.0, r.1)))
   unfolding read_row
   row_tested l at = ap reach (word_then ws (3 ∷ []) at _)
@@ -83,34 +77,37 @@ module _ (ws : List ℕ) (vs : List Variable) (t : ℕ) where
 
 -- ---- a row of a table of type t
 module _ (ws : List ℕ) (vs : List Variable) (t v m l at : ℕ) where
-  module _ (k : ℕ) (ek : k ≡ fault_of (fits (3 ∷ []) (word ws at)) (ltb 0 l) (row_ok vs v m (word ws at)) true) where
-    row_refused : (k ≡ 0 → ⊥) → Refused k at ≡ row_reach ws vs t v m l at
-    unfolding row_reach
-    row_refused nz =
-        always (eqb t 3) ∙ by_type_lem ws vs t (λ F formula. Refused k at) (λ F formula. reach (read_row ws vs formula v m l at))
-        (λ F formula. tested_refused _ _ _ _ k at _ ek nz ∙ sym (row_tested ws vs formula v m l at))
-      where
-        always : (b : Bool) → Refused k at ≡ (if b give (λ _. Refused k at) else (λ _. Refused k at))
-        always true = refl
-        always false = refl
+  -- the tests of its word
+  abbrev row_tests : Parse (Unit {0})
+  row_tests = word_tests (fits (3 ∷ []) (word ws at)) (ltb 0 l) (row_ok vs v m (word ws at)) true at
 
-    row_passed : k ≡ 0 → formula_reach ws vs t (suc at) ≡ row_reach ws vs t v m l at
-    unfolding row_reach formula_reach
-    row_passed z =
-        by_type_lem ws vs t (λ F formula. reach (formula (suc at))) (λ F formula. reach (read_row ws vs formula v m l at))
-        (λ F formula. sym (made_reach (formula (suc at)) _) ∙ tested_passed _ _ _ _ k at _ ek z ∙ sym (row_tested ws vs formula v m l at))
+  row_refused : (q : Fault) → tested (Err q) ≡ row_tests → reached (Err q) ≡ row_reach ws vs t v m l at
+  unfolding row_reach
+  row_refused q e =
+      always (eqb t 3) ∙ by_type_lem ws vs t (λ F formula. reached (Err q)) (λ F formula. reach (read_row ws vs formula v m l at))
+      (λ F formula. tested_refused _ _ _ _ at _ q e ∙ sym (row_tested ws vs formula v m l at))
+    where
+      always : (b : Bool) → reached (Err q) ≡ (if b give (λ _. reached (Err q)) else (λ _. reached (Err q)))
+      always true = refl
+      always false = refl
 
-  pub row_past : length ws ≤ at → Refused 2 at ≡ row_reach ws vs t v m l at
-  unfolding fits mem fault_of
-  row_past h = row_refused 2 (rw (kind_past ws at h)) (λ e. (let z : ⊥ = omega arith in z))
+  row_passed : (u : Unit {0}) → tested (Ok u) ≡ row_tests → formula_reach ws vs t (suc at) ≡ row_reach ws vs t v m l at
+  unfolding row_reach formula_reach
+  row_passed u e =
+      by_type_lem ws vs t (λ F formula. reach (formula (suc at))) (λ F formula. reach (read_row ws vs formula v m l at))
+      (λ F formula. sym (made_reach (formula (suc at)) _) ∙ tested_passed _ _ _ _ at _ u e ∙ sym (row_tested ws vs formula v m l at))
 
-  module _ (w k : ℕ) (f b : Bool) (ew : w ≡ word ws at) (ef : f ≡ fits (3 ∷ []) w) (eb : b ≡ row_ok vs v m w)
-      (ek : k ≡ fault_of f (ltb 0 l) b true) where
-    pub row_fault : (k ≡ 0 → ⊥) → Refused k at ≡ row_reach ws vs t v m l at
-    row_fault nz = row_refused k (rw (← ew, ← ef, ← eb) ek) nz
+  pub row_past : length ws ≤ at → reached (Err (Kind at)) ≡ row_reach ws vs t v m l at
+  unfolding fits mem tested refusal carried word_tests
+  row_past h = row_refused (Kind at) (rw (kind_past ws at h))
 
-    pub row_on : (r : Reached) → k ≡ 0 → r ≡ formula_reach ws vs t (at + 1) → r ≡ row_reach ws vs t v m l at
-    row_on r z er = er ∙ rw (add-one at) (row_passed k (rw (← ew, ← ef, ← eb) ek) z)
+  module _ (w : ℕ) (f b : Bool) (ew : w ≡ word ws at) (ef : f ≡ fits (3 ∷ []) w) (eb : b ≡ row_ok vs v m w)
+      (a : Result (Unit {0}) Fault) (ea : tested a ≡ word_tests f (ltb 0 l) b true at) where
+    pub row_fault : (q : Fault) → a ≡ Err q → reached (Err q) ≡ row_reach ws vs t v m l at
+    row_fault q e = row_refused q (rw (← ew, ← ef, ← eb, ← e) ea)
+
+    pub row_on : (u : Unit {0}) (r : Result ℕ Fault) → a ≡ Ok u → reached r ≡ formula_reach ws vs t (at + 1) → reached r ≡ row_reach ws vs t v m l at
+    row_on u r e er = er ∙ rw (add-one at) (row_passed u (rw (← ew, ← ef, ← eb, ← e) ea))
 
 pub ruleset row_laws = (row_past, row_fault, row_on)
 
@@ -140,28 +137,29 @@ module _ (ws : List ℕ) (vs : List Variable) (t v m : ℕ) where
       by_type_lem ws vs t (λ F formula. reach (read_row ws vs formula v m 0 on)) (λ F formula. reach (read_rows ws vs formula v m 0 on))
       (λ F formula. rows_ended ws vs formula v m on)
 
-  pub rows_over : (i on at : ℕ) (r : Reached) → Max.max_rows ≤ i
+  pub rows_over : (i on at : ℕ) (r : Result ℕ Fault) → Max.max_rows ≤ i
       → rows_reach ws vs t v m (Max.max_rows - i) on ≡ rows_reach ws vs t v m Max.max_rows at
-      → r ≡ row_reach ws vs t v m 0 on → r ≡ rows_reach ws vs t v m Max.max_rows at
+      → reached r ≡ row_reach ws vs t v m 0 on → reached r ≡ rows_reach ws vs t v m Max.max_rows at
   rows_over i on at r h inv er = let z : Max.max_rows - i ≡ 0 = omega arith in er ∙ rows_last on ∙ (rw z at inv)
 
   module _ (i on at : ℕ) (h : i < Max.max_rows)
       (inv : rows_reach ws vs t v m (Max.max_rows - i) on ≡ rows_reach ws vs t v m Max.max_rows at)
-      (a : Reached) (ea : a ≡ row_reach ws vs t v m (Max.max_rows - i) on) where
-    rows_turn : then_at a (λ j. row_then (eqb (W.kind (word ws j)) 3) (rows_reach ws vs t v m (Max.max_rows - (i + 1)) j) j)
+      (a : Result ℕ Fault) (ea : reached a ≡ row_reach ws vs t v m (Max.max_rows - i) on) where
+    rows_turn : then_at (reached a) (λ j. row_then (eqb (W.kind (word ws j)) 3) (rows_reach ws vs t v m (Max.max_rows - (i + 1)) j) j)
         ≡ rows_reach ws vs t v m Max.max_rows at
     rows_turn =
         rw (ea, left Max.max_rows i h) (sym (rows_step (Max.max_rows - (i + 1)) on) ∙ (rw (left Max.max_rows i h) at inv))
 
-    pub rows_refused : (k x : ℕ) → a ≡ Refused k x → Refused k x ≡ rows_reach ws vs t v m Max.max_rows at
-    rows_refused k x e = then_stop a _ k x e ∙ rows_turn
+    pub rows_refused : (q : Fault) → a ≡ Err q → reached (Err q) ≡ rows_reach ws vs t v m Max.max_rows at
+    rows_refused q e = then_stop a _ q e ∙ rows_turn
 
-    module _ (j w k : ℕ) (e : a ≡ Next j) (ew : w ≡ word ws j) (ek : k ≡ W.kind w) where
-      pub rows_end : (k ≡ 3 → ⊥) → Next j ≡ rows_reach ws vs t v m Max.max_rows at
+    module _ (j w k : ℕ) (e : a ≡ Ok j) (ew : w ≡ word ws j) (ek : k ≡ W.kind w) where
+      pub rows_end : (k ≡ 3 → ⊥) → reached (Ok j) ≡ rows_reach ws vs t v m Max.max_rows at
+      unfolding reached
       rows_end n = then_next a _ (Next j) j e (rw (← ew, ← ek, ne_eqb k 3 n)) ∙ rows_turn
 
   -- the premises in an order in which each one shows what the next is about
-  pub rows_on : (i on at j w k : ℕ) (a : Reached) → a ≡ Next j → a ≡ row_reach ws vs t v m (Max.max_rows - i) on → w ≡ word ws j
+  pub rows_on : (i on at j w k : ℕ) (a : Result ℕ Fault) → a ≡ Ok j → reached a ≡ row_reach ws vs t v m (Max.max_rows - i) on → w ≡ word ws j
       → k ≡ W.kind w → k ≡ 3 → i < Max.max_rows
       → rows_reach ws vs t v m (Max.max_rows - i) on ≡ rows_reach ws vs t v m Max.max_rows at
       → rows_reach ws vs t v m (Max.max_rows - (i + 1)) j ≡ rows_reach ws vs t v m Max.max_rows at

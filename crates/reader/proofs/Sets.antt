@@ -1,11 +1,6 @@
 -- What the index says of refusals 6 to 8 of the set that was read, and the laws of read_typed.
-use mathlib.Core.Path.{◌≡◌, refl, ap, ◌∙◌}
-use mathlib.Core.Bool.{◌||◌}
-use mathlib.Core.List.{List, [], ◌∷◌}
-use Prim.Native.Nat.{ℕ, zero, suc, ◌≤◌, ◌<◌}
-use native.Mathlib.Omega.{arith}
-use lib.Dec.{eqb}
-use lib.ListN.{length}
+use Rattle.std.specs.Prelude.{◌≡◌, refl, ◌||◌, List, [], ◌∷◌, ℕ, zero, suc, ◌≤◌, ◌<◌, eqb, length, Result, Ok, Err}
+use Rattle.std.proofs.Common.{ap, ◌∙◌, arith}
 use Rattle.word.specs.Limits as Max
 use Rattle.meaning.specs.Answers.{Outcome, ok, refuse, ◌>>=◌, demand}
 use Rattle.meaning.specs.Searches.{every}
@@ -16,11 +11,8 @@ use Rattle.meaning.specs.States.{is_held, state_count, tabled, starts_at_zero, f
 use Rattle.index.specs.Places.{variables_to}
 use Rattle.index.specs.Indexed.{Indexed}
 use Rattle.index.proofs.Means.{count_is, variable_is, initial_is, held_is, weight_is}
-use Rattle.reader.specs.declared.Words.{Words}
-use Rattle.reader.specs.declared.Words.TheVariants as D
-use Rattle.reader.specs.declared.counts.Counted.{Counted}
-use Rattle.reader.specs.declared.counts.Counted.TheVariants as C
-use Rattle.reader.specs.declared.Typed.TheVariants as T
+use Rattle.reader.specs.declared.Sections.{Sections}
+use Rattle.reader.specs.declared.faults.Fault.{Fault}
 use Rattle.reader.specs.Counts.{tabled_at, starts_at_zero_at, few_states_at, typed_at, WeightsTo, CountedAs}
 use Rattle.reader.specs.Typed.{no_places, no_weights, ReadAs, TypedSet, TypedAs}
 use Rattle.reader.proofs.Places.{places_have}
@@ -71,36 +63,36 @@ typed_count t = count_is t.indexed
 pub weights_long : (us : List ℕ) → us ≡ no_weights → length us ≡ Max.max_variables
 weights_long us e = rw e
 
-module _ (ws ps : List ℕ) (r : Words) (h : ReadAs ws r ps) where
-  pub read_few : (n a : ℕ) → r ≡ D.Read n a → n ≤ Max.max_variables
+module _ (ws ps : List ℕ) (r : Result Sections Fault) (h : ReadAs ws r ps) where
+  pub read_few : (s : Sections) → r ≡ Ok s → s.variables ≤ Max.max_variables
   unfolding ReadAs
-  read_few n a e = (rw e at h).1.few
+  read_few s e = (rw e at h).1.few
 
-  pub typed_wrong : (us : List ℕ) (k i : ℕ) → r ≡ D.Wrong k i → TypedAs ws (T.Refused k i) ps us
+  pub typed_wrong : (us : List ℕ) (q : Fault) → r ≡ Err q → TypedAs ws (Err q) ps us
   unfolding ReadAs TypedAs read_typed
-  typed_wrong us k i e = rw (rw e at h)
+  typed_wrong us q e = rw (rw e at h)
 
-  module _ (n a : ℕ) (er : r ≡ D.Read n a) (us : List ℕ) (q : Counted) (hq : CountedAs ws ps n (typed_at ws ps n) q us) where
-    pub typed_refused : (k v : ℕ) → q ≡ C.Refused k v → TypedAs ws (T.Refused k v) ps us
+  module _ (s : Sections) (er : r ≡ Ok s) (us : List ℕ) (c : Result ℕ Fault) (hc : CountedAs ws ps s.variables (typed_at ws ps s.variables) c us) where
+    pub typed_refused : (q : Fault) → c ≡ Err q → TypedAs ws (Err q) ps us
     unfolding ReadAs TypedAs CountedAs
-    typed_refused k v e =
+    typed_refused q e =
         let ix = (rw er at h).1 in
-        typed_is ix ∙ rw (rw e at hq)
+        typed_is ix ∙ rw (rw e at hc)
 
-    pub typed_set : (c : ℕ) (p₀ : List ℕ) → q ≡ C.States c → p₀ ≡ no_places → length ps ≡ length p₀
-        → TypedAs ws (T.Set n a c) ps us
+    pub typed_set : (k : ℕ) (p₀ : List ℕ) → c ≡ Ok k → p₀ ≡ no_places → length ps ≡ length p₀
+        → TypedAs ws (Ok (record { variables = s.variables; assertions = s.assertions; states = k })) ps us
     unfolding ReadAs TypedAs CountedAs WeightsTo state_count
-    typed_set c p₀ e e₀ el =
-        let s = rw er at h in
-        let ix = s.1 in
-        let k = rw e at hq in (
-          s.0,
+    typed_set k p₀ e e₀ el =
+        let z = rw er at h in
+        let ix = z.1 in
+        let w = rw e at hc in (
+          z.0,
           record {
-            typed = typed_is ix ∙ rw k.0;
+            typed = typed_is ix ∙ rw w.0;
             indexed = ix;
             places_long = rw e₀ at el;
-            weights_long = k.1.long;
-            weights_are = λ v l. k.1.weights v l ∙ weight_is ix v (omega arith);
-            states_are = rw (count_is ix) (k.1.states ∙ weight_is ix n (omega arith));
+            weights_long = w.1.long;
+            weights_are = λ v l. w.1.weights v l ∙ weight_is ix v (omega arith);
+            states_are = rw (count_is ix) (w.1.states ∙ weight_is ix s.variables (omega arith));
           },
         )

@@ -1,14 +1,8 @@
 -- Laws of read_variables, one for each way out. What is left to read from here is the whole reading.
-use mathlib.Core.Path.{◌≡◌, sym, ◌∙◌}
-use mathlib.Core.Bool.{Bool, true, false, not}
-use mathlib.Core.List.{List, []}
-use Prim.Native.Nat.{ℕ, zero, suc, ◌+◌, ◌-◌, ◌≤◌, ◌<◌}
-use native.Mathlib.Omega.{arith}
-use native.Mathlib.Numerals.{add-one}
-use lib.Dec.{eqb}
-use lib.ListN.{length, set, get_or-replicate}
-use lib.Seq.{get_or-set_same, get_or-set_other}
-use borrow.Author.Tests.{ne_eqb, eq-eqb, not-true, not-false}
+use Rattle.std.specs.Prelude.{◌≡◌, Bool, true, false, not, List, [], ℕ, zero, suc, ◌+◌, ◌-◌, ◌≤◌, ◌<◌, eqb, length, set, Result, Ok, Err}
+use Rattle.std.proofs.Common.{sym, ◌∙◌, arith, add-one, get_or-set_same, get_or-set_other, ne_eqb, eq-eqb}
+use Rattle.std.proofs.lemmas.List.{get_or-replicate}
+use borrow.Author.Tests.{not-true, not-false}
 use Rattle.word.specs.Fields as W
 use Rattle.word.specs.Limits as Max
 use Rattle.meaning.specs.Answers.{fine, stop}
@@ -17,7 +11,9 @@ use Rattle.meaning.specs.Reading.{word, variable_ok, read_variables}
 use Rattle.theory.specs.Loops.{left}
 use Rattle.index.specs.Places.{place_count, head_of, variables_to}
 use Rattle.index.proofs.Laws.{variables_same}
-use Rattle.reader.specs.declared.Words.TheVariants.{Read, Wrong}
+use Rattle.reader.specs.declared.faults.Fault.{Fault}
+use Rattle.reader.specs.declared.faults.Fault.TheVariants.{Range, Limit}
+use Rattle.reader.specs.Faults.{refusal, carried}
 use Rattle.reader.specs.Variables.{NoTables, VariablesAs}
 use Rattle.reader.specs.Typed.{no_places}
 
@@ -71,7 +67,7 @@ module _ (ws : List ℕ) where
   module _ (ps : List ℕ) (i : ℕ)
       (inv : read_variables ws (Max.max_variables - i) i (variables_to ws ps i) ≡ read_variables ws Max.max_variables 0 []) where
     pub variables_end : (w k : ℕ) → i ≤ Max.max_variables → length ps ≡ place_count → NoTables ps → w ≡ word ws i → k ≡ W.kind w
-        → (k ≡ 1 → ⊥) → VariablesAs ws ps (Read i i)
+        → (k ≡ 1 → ⊥) → VariablesAs ws ps (Ok i)
     unfolding VariablesAs
     variables_end w k h len none ew ek n = record {
       variables_read = sym inv ∙ ended (Max.max_variables - i) i (variables_to ws ps i) (rw (← ew, ← ek) (ne_eqb k 1 n));
@@ -82,8 +78,8 @@ module _ (ws : List ℕ) where
 
     module _ (w k : ℕ) (b : Bool) (h : i < Max.max_variables) (ew : w ≡ word ws i) (ek : k ≡ W.kind w) (e1 : k ≡ 1)
         (eb : b ≡ variable_ok w) where
-      pub variables_bad : not b ≡ true → VariablesAs ws ps (Wrong 3 i)
-      unfolding VariablesAs
+      pub variables_bad : not b ≡ true → VariablesAs ws ps (Err (Range i))
+      unfolding VariablesAs refusal carried
       variables_bad n =
           sym (rw (left Max.max_variables i h) at inv)
           ∙ out_of_range (Max.max_variables - (i + 1)) i (variables_to ws ps i) (rw (← ew, ← ek) (eq-eqb k 1 e1)) (rw (← ew, ← eb) (not-true b n))
@@ -97,14 +93,14 @@ module _ (ws : List ℕ) where
           ∙ (rw (left Max.max_variables i h, add-one i) at inv))
 
     module _ (w k : ℕ) (most : i ≤ Max.max_variables) (all : Max.max_variables ≤ i) (ew : w ≡ word ws Max.max_variables) (ek : k ≡ W.kind w) where
-      pub variables_over : k ≡ 1 → VariablesAs ws ps (Wrong 4 Max.max_variables)
-      unfolding VariablesAs
+      pub variables_over : k ≡ 1 → VariablesAs ws ps (Err (Limit Max.max_variables))
+      unfolding VariablesAs refusal carried
       variables_over e1 =
           let e : i ≡ Max.max_variables = omega arith in
           sym (rw e at inv) ∙ one_over Max.max_variables (variables_to ws ps Max.max_variables) (rw (← ew, ← ek) (eq-eqb k 1 e1))
 
       pub variables_all : length ps ≡ place_count → NoTables ps → (k ≡ 1 → ⊥)
-          → VariablesAs ws ps (Read Max.max_variables Max.max_variables)
+          → VariablesAs ws ps (Ok Max.max_variables)
       unfolding VariablesAs
       variables_all len none n =
           let e : i ≡ Max.max_variables = omega arith in
@@ -116,7 +112,7 @@ module _ (ws : List ℕ) where
           }
 
 -- ---- what the answer says
-module _ (ws ps : List ℕ) (n i : ℕ) (v : _) (h : VariablesAs ws ps v) (e : v ≡ Read n i) where
+module _ (ws ps : List ℕ) (n : ℕ) (v : Result ℕ Fault) (h : VariablesAs ws ps v) (e : v ≡ Ok n) where
   pub variables_few : n ≤ Max.max_variables
   unfolding VariablesAs
   variables_few = (rw e at h).few

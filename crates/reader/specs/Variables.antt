@@ -1,11 +1,11 @@
 -- What the answer of read_variables and what it wrote say together.
-use Rattle.std.specs.Prelude.{ℕ, ◌≤◌, ◌<◌, ◌≡◌, List, [], length, get_or}
+use Rattle.std.specs.Prelude.{ℕ, ◌≤◌, ◌<◌, ◌≡◌, List, [], length, get_or, Result, Ok, Err}
 use Rattle.word.specs.Limits as Max
 use Rattle.meaning.specs.Answers.{fine, stop}
 use Rattle.meaning.specs.Reading.{read_variables}
 use Rattle.index.specs.Places.{place_count, variables_to}
-use Rattle.reader.specs.declared.Words.{Words}
-use Rattle.reader.specs.declared.Words.TheVariants as W
+use Rattle.reader.specs.declared.faults.Fault.{Fault}
+use Rattle.reader.specs.Faults.{refusal, carried}
 
 -- no table has been read
 unfoldable pub NoTables : List ℕ → Type 0
@@ -18,6 +18,7 @@ pub record VariablesRead (ws ps : List ℕ) (n i : ℕ) : Type 0 where
   pub long : length ps ≡ place_count
   pub no_tables : NoTables ps
 
-unfoldable pub VariablesAs : List ℕ → List ℕ → Words → Type 0
-VariablesAs ws ps (W.Read n i) = VariablesRead ws ps n i
-VariablesAs ws ps (W.Wrong k i) = read_variables ws Max.max_variables 0 [] ≡ stop k i
+-- the answer is the number of variables, which is the place after them too
+unfoldable pub VariablesAs : List ℕ → List ℕ → Result ℕ Fault → Type 0
+VariablesAs ws ps (Ok n) = VariablesRead ws ps n n
+VariablesAs ws ps (Err f) = read_variables ws Max.max_variables 0 [] ≡ stop (refusal f) (carried f)

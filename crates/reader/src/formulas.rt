@@ -5,97 +5,90 @@
 ghost use Rattle.std.specs.Prelude.{◌≡◌};
 ghost use Rattle.meaning.specs.Reading as R;
 ghost use Rattle.index.specs.Places.{variables_to, reach};
+ghost use Rattle.reader.specs.Faults.{reached};
 ghost use Rattle.reader.specs.Formulas.{change_reach};
 
+use crate::faults::Fault;
 use crate::tests::{fits_condition, fits_event, test_ok, within};
-use index::{Reached, word_at};
+use index::{Variables, word_at};
 use word::{Change, Kind, kind, operands, sort, truth};
 
-pub fn read_condition(words: &[u32], places: &[usize], n: usize, at: usize, left: usize) -> Reached
-    ensures { result ≡ reach (R.read_condition words.now (variables_to words.now places.now n) left at) }
+pub fn read_condition(set: &Variables, at: usize, left: usize) -> Result<usize, Fault>
+    ensures { reached result ≡ reach (R.read_condition set.now.words.now (variables_to set.now.words.now set.now.places.now set.now.count) left at) }
 {
-    if words.len() <= at {
-        return Reached::Refused(2, at);
+    if set.words.len() <= at {
+        return Err(Fault::Kind(at));
     }
-    let w = word_at(words, at);
+    let w = word_at(set.words, at);
     if !fits_condition(w) {
-        return Reached::Refused(2, at);
+        return Err(Fault::Kind(at));
     }
     if left == 0 {
-        return Reached::Refused(4, at);
+        return Err(Fault::Limit(at));
     }
     let on = at + 1;
     let less = left - 1;
     match operands(w) {
         2 => {
-            let first = read_condition(words, places, n, on, less);
-            match first {
-                Reached::Next(j) => return read_condition(words, places, n, j, less),
-                Reached::Refused(k, i) => return Reached::Refused(k, i),
-            }
+            let second = read_condition(set, on, less)?;
+            return read_condition(set, second, less);
         }
-        1 => return read_condition(words, places, n, on, less),
+        1 => return read_condition(set, on, less),
         _ => {
             if kind(w) == Kind::Test as u32 {
-                if test_ok(words, places, n, w) {
-                    return Reached::Next(on);
+                if test_ok(set, w) {
+                    return Ok(on);
                 }
-                return Reached::Refused(3, at);
+                return Err(Fault::Range(at));
             }
-            return Reached::Next(on);
+            return Ok(on);
         }
     }
 }
 
 // The two conditions c and d after a change word.
-pub fn read_change(words: &[u32], places: &[usize], n: usize, at: usize, left: usize) -> Reached
-    ensures { result ≡ change_reach words.now (variables_to words.now places.now n) left at }
+pub fn read_change(set: &Variables, at: usize, left: usize) -> Result<usize, Fault>
+    ensures { reached result ≡ change_reach set.now.words.now (variables_to set.now.words.now set.now.places.now set.now.count) left at }
 {
-    let first = read_condition(words, places, n, at, left);
-    match first {
-        Reached::Next(j) => return read_condition(words, places, n, j, left),
-        Reached::Refused(k, i) => return Reached::Refused(k, i),
-    }
+    let second = read_condition(set, at, left)?;
+    read_condition(set, second, left)
 }
 
-pub fn read_event(words: &[u32], places: &[usize], n: usize, at: usize, left: usize) -> Reached
-    ensures { result ≡ reach (R.read_event words.now (variables_to words.now places.now n) left at) }
+pub fn read_event(set: &Variables, at: usize, left: usize) -> Result<usize, Fault>
+    ensures { reached result ≡ reach (R.read_event set.now.words.now (variables_to set.now.words.now set.now.places.now set.now.count) left at) }
 {
-    if words.len() <= at {
-        return Reached::Refused(2, at);
+    if set.words.len() <= at {
+        return Err(Fault::Kind(at));
     }
-    let w = word_at(words, at);
+    let w = word_at(set.words, at);
     if !fits_event(w) {
-        return Reached::Refused(2, at);
+        return Err(Fault::Kind(at));
     }
     if left == 0 {
-        return Reached::Refused(4, at);
+        return Err(Fault::Limit(at));
     }
     let on = at + 1;
     let less = left - 1;
     match operands(w) {
         2 => {
             if kind(w) == Kind::Or as u32 {
-                let first = read_event(words, places, n, on, less);
-                match first {
-                    Reached::Next(j) => return read_event(words, places, n, j, less),
-                    Reached::Refused(k, i) => return Reached::Refused(k, i),
-                }
+                let second = read_event(set, on, less)?;
+                return read_event(set, second, less);
             }
             if within(
                 Change::BecomesTrue as u32,
                 Change::BecomesFalse as u32,
                 sort(w),
             ) {
-                return read_change(words, places, n, on, less);
+                return read_change(set, on, less);
             }
-            return Reached::Refused(3, at);
+            return Err(Fault::Range(at));
         }
         _ => {
             if truth(w) == 0 {
-                return Reached::Next(on);
+                return Ok(on);
             }
-            return Reached::Refused(3, at);
+            return Err(Fault::Range(at));
         }
     }
 }

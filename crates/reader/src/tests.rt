@@ -3,9 +3,10 @@ ghost use Rattle.std.specs.Prelude.{◌≡◌, [], ◌∷◌};
 ghost use Rattle.meaning.specs.Searches as S;
 ghost use Rattle.meaning.specs.Reading as R;
 ghost use Rattle.index.specs.Places.{variables_to};
-ghost use Rattle.reader.specs.Formulas.{fault_of};
+ghost use Rattle.reader.specs.Faults.{tested, word_tests};
 
-use index::{class_of, size_of, word_at};
+use crate::faults::Fault;
+use index::{Variables, word_at};
 use word::{
     Class, EVERY_MODE, Kind, MAX_MODES, MAX_SIZE, MIN_SIZE, NO_CLASS, Relation, TableType,
     class_read, defined, initial, kind, mode, relation, size, sort, spare_clear, value, variable,
@@ -46,24 +47,23 @@ pub fn fits_event(w: u32) -> bool
     ((k == Kind::Or as u32) | ((k == Kind::Change as u32) | (k == Kind::Constant as u32))) & clear
 }
 
-// The number of a word's refusal, 0 for none. In this order: does it fit its place (2), is there room for it (4), are its fields in
-// range (3), does it suit its variable (5)?
-pub fn fault(fits: bool, room: bool, ranged: bool, suited: bool) -> u32
-    ensures { result ≡ fault_of fits room ranged suited }
+// In this order: does the word at `at` fit its place (2), is there room for it (4), are its fields in range (3), does it suit its variable (5)?
+pub fn test_word(at: usize, fits: bool, room: bool, ranged: bool, suited: bool) -> Result<(), Fault>
+    ensures { tested result ≡ word_tests fits room ranged suited at }
 {
     if !fits {
-        return 2;
+        return Err(Fault::Kind(at));
     }
     if !room {
-        return 4;
+        return Err(Fault::Limit(at));
     }
     if !ranged {
-        return 3;
+        return Err(Fault::Range(at));
     }
     if !suited {
-        return 5;
+        return Err(Fault::Fit(at));
     }
-    0
+    Ok(())
 }
 
 // Are the fields of a variable word in range? A mode class has one value less, as 255 stands for every mode.
@@ -79,47 +79,47 @@ pub fn variable_ok(w: u32) -> bool
 }
 
 // Are the fields of a test word in range?
-pub fn test_ok(words: &[u32], places: &[usize], n: usize, w: u32) -> bool
-    ensures { result ≡ R.test_ok (variables_to words.now places.now n) w }
+pub fn test_ok(set: &Variables, w: u32) -> bool
+    ensures { result ≡ R.test_ok (variables_to set.now.words.now set.now.places.now set.now.count) w }
 {
     let v = variable(w) as usize;
     let how = relation(w);
     let k = value(w);
-    let values = size_of(words, places, n, v);
-    ((v < n) & (how <= Relation::AtMost as u32)) & (k < values)
+    let values = set.size_of(v);
+    ((v < set.count) & (how <= Relation::AtMost as u32)) & (k < values)
 }
 
 // Are the fields of a row word in range, in the table for v that reads class m?
-pub fn row_ok(words: &[u32], places: &[usize], n: usize, v: usize, m: usize, w: u32) -> bool
-    ensures { result ≡ R.row_ok (variables_to words.now places.now n) v m w }
+pub fn row_ok(set: &Variables, v: usize, m: usize, w: u32) -> bool
+    ensures { result ≡ R.row_ok (variables_to set.now.words.now set.now.places.now set.now.count) v m w }
 {
     let r = mode(w);
     let k = value(w);
-    let modes = size_of(words, places, n, m);
-    let values = size_of(words, places, n, v);
+    let modes = set.size_of(m);
+    let values = set.size_of(v);
     ((r == EVERY_MODE) | ((m != NO_CLASS) & (r < modes))) & (k < values)
 }
 
 // Are the fields of the table word at `at` in range?
-pub fn table_ok(words: &[u32], places: &[usize], n: usize, at: usize) -> bool
-    ensures { result ≡ R.table_ok (variables_to words.now places.now n) (R.word words.now at) }
+pub fn table_ok(set: &Variables, at: usize) -> bool
+    ensures { result ≡ R.table_ok (variables_to set.now.words.now set.now.places.now set.now.count) (R.word set.now.words.now at) }
 {
-    let w = word_at(words, at);
+    let w = word_at(set.words, at);
     let known = within(TableType::Mode as u32, TableType::Condition as u32, sort(w));
     let v = defined(w) as usize;
     let m = class_read(w) as usize;
-    (known & (v < n)) & ((m == NO_CLASS) | (m < n))
+    (known & (v < set.count)) & ((m == NO_CLASS) | (m < set.count))
 }
 
 // Do its type and the class that it reads suit the variable that it defines?
-pub fn table_fits(words: &[u32], places: &[usize], n: usize, at: usize) -> bool
-    ensures { result ≡ R.table_fits (variables_to words.now places.now n) (R.word words.now at) }
+pub fn table_fits(set: &Variables, at: usize) -> bool
+    ensures { result ≡ R.table_fits (variables_to set.now.words.now set.now.places.now set.now.count) (R.word set.now.words.now at) }
 {
-    let w = word_at(words, at);
+    let w = word_at(set.words, at);
     let v = defined(w) as usize;
     let m = class_read(w) as usize;
-    let class = class_of(words, places, n, v);
-    let read = class_of(words, places, n, m);
+    let class = set.class_of(v);
+    let read = set.class_of(m);
     if sort(w) == TableType::Mode as u32 {
         (class == Class::ModeClass as u32) & (m == v)
     } else {

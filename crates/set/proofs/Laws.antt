@@ -1,43 +1,44 @@
 -- One law for each way out of the reading of a set.
-use mathlib.Core.Path.{◌≡◌, sym, ◌∙◌, subst}
-use mathlib.Core.List.{List, [], ◌∷◌}
-use Prim.Native.Nat.{ℕ, ◌≤◌}
-use lib.ListN.{length, take}
+use Rattle.std.specs.Prelude.{◌≡◌, List, [], ◌∷◌, ℕ, ◌≤◌, length, take, Result, Ok, Err, IsErrAnd}
+use Rattle.std.proofs.Common.{sym, ap, ◌∙◌, subst}
 use Rattle.word.specs.Limits as Max
 use Rattle.meaning.specs.Answers.{ok, refuse}
 use Rattle.meaning.specs.Order.{order, no_cycle}
 use Rattle.meaning.specs.States.{read_typed, read_set}
-use Rattle.reader.specs.declared.Typed as T
-use Rattle.reader.specs.declared.Typed.TheVariants as TV
+use Rattle.index.specs.declared.variables.Extent.{Extent}
+use Rattle.reader.specs.declared.faults.Fault as R
+use Rattle.reader.specs.Faults.{refusal, carried}
 use Rattle.reader.specs.Typed.{TypedAs}
 use Rattle.order.specs.declared.Order as O
 use Rattle.order.specs.declared.Order.TheVariants as OV
 use Rattle.order.specs.Orders.{order_at, no_cycle_at, cycle_said}
 use Rattle.order.proofs.Means.{order_means, order_below}
 use Rattle.theory.specs.Numbered.{typed_number}
-use Rattle.set.specs.declared.SetRead.TheVariants.{Set, Refused, Cycle}
+use Rattle.set.specs.declared.faults.Fault.{Fault}
+use Rattle.set.specs.declared.faults.Fault.TheVariants.{Unread, Cycle}
 use Rattle.set.specs.ReadSet.{SetAs}
 
-pub set_refused : (ws ps us os : List ℕ) (t : T.Typed) (k x : ℕ) → TypedAs ws t ps us → t ≡ TV.Refused k x → SetAs ws (Refused k x) ps us os
+pub set_refused : (ws ps us os : List ℕ) (t : Result Extent R.Fault) (f : R.Fault) → TypedAs ws t ps us → t ≡ Err f → SetAs ws (Err (Unread f)) ps us os
 unfolding SetAs TypedAs read_set
-set_refused ws ps us os t k x h e =
-    let r : read_typed ws ≡ refuse k (x ∷ []) = subst (λ (y : T.Typed). TypedAs ws y ps us) e h in
-    (rw r, typed_number ws k (x ∷ []) r)
+set_refused ws ps us os t f h e =
+    let r : read_typed ws ≡ refuse (refusal f) (carried f ∷ []) = subst (λ (y : Result Extent R.Fault). TypedAs ws y ps us) e h in
+    (rw r, typed_number ws (refusal f) (carried f ∷ []) r)
 
-pub index_few : (ws ps us : List ℕ) (t : T.Typed) (n a c : ℕ) → TypedAs ws t ps us → t ≡ TV.Set n a c → n ≤ Max.max_variables
+pub index_few : (ws ps us : List ℕ) (t : Result Extent R.Fault) (x : Extent) → TypedAs ws t ps us → t ≡ Ok x → x.variables ≤ Max.max_variables
 unfolding TypedAs
-index_few ws ps us t n a c h e = let p = rw e at h in p.1.indexed.few
+index_few ws ps us t x h e = let p = rw e at h in p.1.indexed.few
 
-module _ (ws ps us os : List ℕ) (t : T.Typed) (n a c : ℕ) (o : O.Order) (h : TypedAs ws t ps us) (e : t ≡ TV.Set n a c)
-    (eo : cycle_said o ≡ no_cycle_at ws ps n) where
-  pub set_cycle : (w m : ℕ) → o ≡ OV.Cycle w m → SetAs ws (Cycle w m) ps us os
+module _ (ws ps us os : List ℕ) (t : Result Extent R.Fault) (x : Extent) (o : O.Order) (h : TypedAs ws t ps us) (e : t ≡ Ok x)
+    (eo : cycle_said o ≡ no_cycle_at ws ps x.variables) where
+  pub set_cycle : (w m : ℕ) → o ≡ OV.Cycle w m → SetAs ws (Err (Cycle (record { variable = w; length = m }))) ps us os
   unfolding SetAs TypedAs cycle_said read_set
   set_cycle w m p =
       let q = rw e at h in
       let s : no_cycle q.0 ≡ refuse 9 (w ∷ m ∷ []) = sym (order_means q.1.indexed).1 ∙ sym eo ∙ rw p in
       rw (q.1.typed, s)
 
-  pub set_all : o ≡ OV.All → take (length (order_at ws ps n)) os ≡ order_at ws ps n → length os ≡ Max.max_variables → SetAs ws (Set n a c) ps us os
+  pub set_all : o ≡ OV.All → take (length (order_at ws ps x.variables)) os ≡ order_at ws ps x.variables → length os ≡ Max.max_variables
+      → SetAs ws (Ok x) ps us os
   unfolding SetAs TypedAs cycle_said read_set
   set_all p take_is long =
       let q = rw e at h in
@@ -52,3 +53,8 @@ module _ (ws ps us os : List ℕ) (t : T.Typed) (n a c : ℕ) (o : O.Order) (h :
           order_long = long;
         },
       )
+
+-- what is made of an error that is passed on
+pub passed_on : (r : Result Extent Fault) (f : R.Fault) → IsErrAnd r (λ g. g ≡ Unread f) → r ≡ Err (Unread f)
+passed_on (Ok x) f h = absurd h
+passed_on (Err g) f h = ap (λ (e : Fault). Err e) h

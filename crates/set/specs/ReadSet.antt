@@ -1,14 +1,16 @@
 -- What a reading without a refusal leaves: the set that the words say, and its index.
-use Rattle.std.specs.Prelude.{ℕ, ◌≡◌, true, List, [], ◌∷◌, length, take}
+use Rattle.std.specs.Prelude.{ℕ, ◌≡◌, true, List, [], ◌∷◌, length, take, Result, Ok, Err}
 use Rattle.word.specs.Limits as Max
 use Rattle.meaning.specs.Answers.{ok, refuse, typed_numbers}
 use Rattle.meaning.specs.Searches.{mem}
 use Rattle.meaning.specs.Syntax.{TableSet}
 use Rattle.meaning.specs.Order.{order, no_cycle}
 use Rattle.meaning.specs.States.{read_set}
+use Rattle.index.specs.declared.variables.Extent.{Extent}
+use Rattle.reader.specs.Faults.{refusal, carried}
 use Rattle.reader.specs.Typed.{TypedSet}
-use Rattle.set.specs.declared.SetRead.{SetRead}
-use Rattle.set.specs.declared.SetRead.TheVariants.{Set, Refused, Cycle}
+use Rattle.set.specs.declared.faults.Fault.{Fault}
+use Rattle.set.specs.declared.faults.Fault.TheVariants.{Unread, Cycle}
 
 -- n variables, the first assertion at a, c states, tables at the places ps, weights us, dependency order os
 pub record ReadSet (ws : List ℕ) (z : TableSet) (n a c : ℕ) (ps us os : List ℕ) : Type 0 where
@@ -18,7 +20,7 @@ pub record ReadSet (ws : List ℕ) (z : TableSet) (n a c : ℕ) (ps us os : List
   pub order_is : take n os ≡ order z
   pub order_long : length os ≡ Max.max_variables
 
-unfoldable pub SetAs : List ℕ → SetRead → List ℕ → List ℕ → List ℕ → Type 0
-SetAs ws (Set n a c) ps us os = (z : TableSet) × ReadSet ws z n a c ps us os
-SetAs ws (Refused k x) ps us os = (read_set ws ≡ refuse k (x ∷ [])) × (mem k typed_numbers ≡ true)
-SetAs ws (Cycle w m) ps us os = read_set ws ≡ refuse 9 (w ∷ m ∷ [])
+unfoldable pub SetAs : List ℕ → Result Extent Fault → List ℕ → List ℕ → List ℕ → Type 0
+SetAs ws (Ok e) ps us os = (z : TableSet) × ReadSet ws z e.variables e.assertions e.states ps us os
+SetAs ws (Err (Unread f)) ps us os = (read_set ws ≡ refuse (refusal f) (carried f ∷ [])) × (mem (refusal f) typed_numbers ≡ true)
+SetAs ws (Err (Cycle c)) ps us os = read_set ws ≡ refuse 9 (c.variable ∷ c.length ∷ [])

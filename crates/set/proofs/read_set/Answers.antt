@@ -1,15 +1,15 @@
-use Rattle.set.proofs.Laws.{set_refused, index_few, set_cycle, set_all}
-use borrow.Author.Rules.{rules}
+use Rattle.std.proofs.Common.{rules}
+use Rattle.set.proofs.Laws.{set_refused, index_few, set_cycle, set_all, passed_on}
 use Rattle.set.proofs.read_set.Goals as goal
 
-pub order_tables-o-requires : goal.order_tables-o-requires
-order_tables-o-requires c = (search index_few, search rules)
+pub order_tables-requires : goal.order_tables-requires
+order_tables-requires c = (search (index_few, c.in_ok-extent.was), search rules)
 
-pub returns-in-Refused : goal.returns-in-Refused
-returns-in-Refused c = search set_refused
+pub returns-in_err-extent : goal.returns-in_err-extent
+returns-in_err-extent c = rw (passed_on _ _ c.from_residual.ensures.1) (search (set_refused, c.in_err-extent.was))
 
 pub returns-in-All : goal.returns-in-All
-returns-in-All c = search set_all
+returns-in-All c = search (set_all, c.in_ok-extent.was)
 
 pub returns-in-Cycle : goal.returns-in-Cycle
-returns-in-Cycle c = search set_cycle
+returns-in-Cycle c = search (set_cycle, c.in_ok-extent.was)
