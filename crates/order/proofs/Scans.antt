@@ -186,16 +186,17 @@ unfolding list_of
 masks_none ws ps [] = refl
 masks_none ws ps (m ∷ ms) = refl
 
-pub masks_on : (ws ps ms : List ℕ) (v m : ℕ) → length ms ≡ Max.max_variables → v < Max.max_variables → take v ms ≡ masks_to ws ps v
+pub masks_on : (ws ps ms : List ℕ) (n v m : ℕ) → length ms ≡ n → v < n → take v ms ≡ masks_to ws ps v
     → m ≡ table_mask ws (get_or ps v 0) → take (v + 1) (set ms v m) ≡ masks_to ws ps (v + 1)
 unfolding list_of
-masks_on ws ps ms v m l h i em =
+masks_on ws ps ms n v m l h i em =
     let b : v < length ms = omega arith in
     rw (add-one v, take-suc-set ms v m b, i, em)
 
-pub masks_all : (ws ps ms : List ℕ) (v : ℕ) → length ms ≡ Max.max_variables → v ≤ Max.max_variables → Max.max_variables ≤ v → take v ms ≡ masks_to ws ps v → ms ≡ masks_at ws ps
+pub masks_all : (ws ps ms : List ℕ) (n v : ℕ) → length ms ≡ n → n ≡ Max.max_variables → v ≤ n → n ≤ v → take v ms ≡ masks_to ws ps v
+    → ms ≡ masks_at ws ps
 unfolding masks_at
-masks_all ws ps ms v l h k i =
+masks_all ws ps ms n v l m h k i =
     let e : v ≡ Max.max_variables = omega arith in
     let b : length ms ≤ Max.max_variables = omega arith in
     sym (take_all Max.max_variables ms b) ∙ (rw e at i)

@@ -1,6 +1,6 @@
 use borrow.Author.Rules.{rules}
 use Rattle.order.proofs.Takes.{least_start, moves_none, moves_on, back_found, back_on, back_none}
-use Rattle.order.proofs.moves_back.Goals as goal
+use Rattle.order.proofs.taking.Taking.moves_back.Goals as goal
 
 pub loop-k-init : goal.loop-k-init
 loop-k-init c = (search rules, search moves_none, search least_start)

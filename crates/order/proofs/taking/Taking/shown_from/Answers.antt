@@ -1,6 +1,6 @@
 use borrow.Author.Rules.{rules}
 use Rattle.order.proofs.Takes.{moves_none, moves_on, moves_all}
-use Rattle.order.proofs.shown_from.Goals as goal
+use Rattle.order.proofs.taking.Taking.shown_from.Goals as goal
 
 pub loop-i-init : goal.loop-i-init
 loop-i-init c = (search rules, search moves_none)
