@@ -5,6 +5,7 @@ use Rattle.std.proofs.Common.{refl, sym, ap, ◌∙◌, arith, add-one}
 use Rattle.std.proofs.Math.Option.{Option, none, some}
 use native.Mathlib.Nat.{sub-zero}
 use lib.ListN.{length-take}
+use Rattle.std.proofs.lemmas.List.{set-get_or, take-append-le}
 use lib.Seq.{take-suc-set}
 use borrow.Author.Tests.{eq-eqb, ne_eqb}
 use Rattle.word.specs.Limits as Max
@@ -77,53 +78,58 @@ pub order_start : (ms : List ℕ) (n : ℕ) (xs : List ℕ) → take_by ms n (n 
 unfolding order_by
 order_start ms n xs = rw (sub-zero n, take_none xs)
 
--- i variables are taken, in the front of xs, and have the mask t
-module _ (ms : List ℕ) (n i t : ℕ) (xs : List ℕ) (et : t ≡ mask_of (take i xs) 0) (inv : take_by ms n (n - i) (take i xs) ≡ order_by ms n) where
+-- i variables are taken, in the front of xs, and have the mask t; xs is the front of what was os
+module _ (ms : List ℕ) (n i t : ℕ) (xs os : List ℕ) (few : n ≤ Max.max_variables) (room : length os ≡ Max.max_variables)
+    (same : length xs ≡ length (take n os)) (et : t ≡ mask_of (take i xs) 0) (inv : take_by ms n (n - i) (take i xs) ≡ order_by ms n) where
+  front_length : length (take n os) ≡ n
+  front_length = length-take n os ∙ omega arith
+
   -- the order ends here
   mask_end : take i xs ≡ order_by ms n → t ≡ taken_by ms n
   unfolding taken_by
   mask_end e = et ∙ ap (λ (o : List ℕ). mask_of o 0) e
 
-  front : i ≤ n → n ≤ Max.max_variables → length xs ≡ Max.max_variables → take i xs ≡ order_by ms n → take (length (order_by ms n)) xs ≡ order_by ms n
-  front h k l e =
+  front : i ≤ length (take n os) → take i xs ≡ order_by ms n → (ys : List ℕ) → take (length (order_by ms n)) (xs ++ ys) ≡ order_by ms n
+  front h e ys =
       let q : length (take i xs) ≡ i = length-take i xs ∙ omega arith in
-      rw (← e, q)
+      let l : i ≤ length xs = omega arith in
+      rw (← e, q) (take-append-le i xs ys l)
 
   turn : i < n → (o : Option ℕ) → least_ready ms n t ≡ o → taking o (take i xs) (take_by ms n (n - (i + 1))) ≡ order_by ms n
   unfolding take_by
   turn h o eo = rw (← eo, et) (rw (left n i h) at inv)
 
-  stopped : (r : R.Option ℕ) → i < n → r ≡ found_of (least_ready ms n t) → r ≡ None → take i xs ≡ order_by ms n
+  stopped : (r : R.Option ℕ) → i < length (take n os) → r ≡ found_of (least_ready ms n t) → r ≡ None → take i xs ≡ order_by ms n
   unfolding taking
-  stopped r h er e = turn h none (found_none _ (sym er ∙ e))
+  stopped r h er e = turn (omega (arith, front_length)) none (found_none _ (sym er ∙ e))
 
-  ended : i ≤ n → n ≤ i → take i xs ≡ order_by ms n
+  ended : i ≤ length (take n os) → length (take n os) ≤ i → take i xs ≡ order_by ms n
   unfolding take_by
-  ended h k = let z : n - i ≡ 0 = omega arith in rw z at inv
+  ended h k = let z : n - i ≡ 0 = omega (arith, front_length) in rw z at inv
 
-  pub mask_stop : (r : R.Option ℕ) → i < n → r ≡ found_of (least_ready ms n t) → r ≡ None → t ≡ taken_by ms n
+  pub mask_stop : (r : R.Option ℕ) → i < length (take n os) → r ≡ found_of (least_ready ms n t) → r ≡ None → t ≡ taken_by ms n
   mask_stop r h er e = mask_end (stopped r h er e)
 
-  pub order_stop : (r : R.Option ℕ) → i < n → n ≤ Max.max_variables → length xs ≡ Max.max_variables → r ≡ found_of (least_ready ms n t) → r ≡ None
-      → take (length (order_by ms n)) xs ≡ order_by ms n
-  order_stop r h k l er e = front (omega arith) k l (stopped r h er e)
+  pub order_stop : (r : R.Option ℕ) (ys : List ℕ) → i < length (take n os) → r ≡ found_of (least_ready ms n t) → r ≡ None
+      → take (length (order_by ms n)) (set xs i (get_or xs i 0) ++ ys) ≡ order_by ms n
+  order_stop r ys h er e = rw (set-get_or xs i 0) (front (omega arith) (stopped r h er e) ys)
 
-  pub mask_all : i ≤ n → n ≤ i → t ≡ taken_by ms n
+  pub mask_all : i ≤ length (take n os) → length (take n os) ≤ i → t ≡ taken_by ms n
   mask_all h k = mask_end (ended h k)
 
-  pub order_all : i ≤ n → n ≤ i → n ≤ Max.max_variables → length xs ≡ Max.max_variables → take (length (order_by ms n)) xs ≡ order_by ms n
-  order_all h k b l = front h b l (ended h k)
+  pub order_all : (ys : List ℕ) → i ≤ length (take n os) → length (take n os) ≤ i → take (length (order_by ms n)) (xs ++ ys) ≡ order_by ms n
+  order_all ys h k = front h (ended h k) ys
 
-  grown : (v : ℕ) → i < n → n ≤ Max.max_variables → length xs ≡ Max.max_variables → take (i + 1) (set xs i v) ≡ take i xs ++ (v ∷ [])
-  grown v h k l = let b : i < length xs = omega arith in rw (add-one i) (take-suc-set xs i v b)
+  grown : (v : ℕ) → i < length (take n os) → take (i + 1) (set xs i v) ≡ take i xs ++ (v ∷ [])
+  grown v h = let b : i < length xs = omega arith in rw (add-one i) (take-suc-set xs i v b)
 
-  pub mask_on : (v m : ℕ) → i < n → n ≤ Max.max_variables → length xs ≡ Max.max_variables → m ≡ one_bit v → bit_or t m ≡ mask_of (take (i + 1) (set xs i v)) 0
-  mask_on v m h k l em = rw (grown v h k l, mask_grown (take i xs) v 0, em, et)
+  pub mask_on : (v m : ℕ) → i < length (take n os) → m ≡ one_bit v → bit_or t m ≡ mask_of (take (i + 1) (set xs i v)) 0
+  mask_on v m h em = rw (grown v h, mask_grown (take i xs) v 0, em, et)
 
-  pub order_on : (r : R.Option ℕ) (v : ℕ) → i < n → n ≤ Max.max_variables → length xs ≡ Max.max_variables → r ≡ found_of (least_ready ms n t) → r ≡ Some v
+  pub order_on : (r : R.Option ℕ) (v : ℕ) → i < length (take n os) → r ≡ found_of (least_ready ms n t) → r ≡ Some v
       → take_by ms n (n - (i + 1)) (take (i + 1) (set xs i v)) ≡ order_by ms n
   unfolding taking
-  order_on r v h k l er e = rw (grown v h k l) (turn h (some v) (found_some _ v (sym er ∙ e)))
+  order_on r v h er e = rw (grown v h) (turn (omega (arith, front_length)) (some v) (found_some _ v (sym er ∙ e)))
 
 -- ---- one move
 pub stuck_read_is : (m t b : ℕ) (x y : Bool) → x ≡ untaken_by t b → y ≡ bit_in m b → x && y ≡ stuck_read m t b

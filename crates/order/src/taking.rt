@@ -129,7 +129,7 @@ pub fn take_ready(masks: &[u32], count: usize, order: &mut [usize]) -> u32
     ensures order_len { length order.new ≡ Max.max_variables }
 {
     let mut taken = 0u32;
-    for i in 0..count {
+    for place in &mut order[..count] {
         let turn = Taking {
             masks,
             count,
@@ -138,7 +138,7 @@ pub fn take_ready(masks: &[u32], count: usize, order: &mut [usize]) -> u32
         let Some(v) = turn.next_ready() else {
             return taken;
         };
-        order[i] = v;
+        *place = v;
         taken |= one_bit(v);
     }
     taken

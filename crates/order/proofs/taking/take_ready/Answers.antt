@@ -1,16 +1,20 @@
-use borrow.Author.Rules.{rules}
-use lib.ListN.{length-set}
 use Rattle.order.proofs.Takes.{mask_start, order_start, mask_on, order_on, mask_stop, order_stop, mask_all, order_all}
 use Rattle.order.proofs.taking.take_ready.Goals as goal
 
-pub loop-i-init : goal.loop-i-init
-loop-i-init c = (search rules, search rules, search mask_start, search order_start)
+pub loop-place-init : goal.loop-place-init
+loop-place-init c = record { mask_of_front = search mask_start; front_of_order = search order_start }
 
-pub returns-in_default : goal.returns-in_default
-returns-in_default c = record { value = search mask_stop; order_after = search order_stop; order_len = search rules }
+pub returns-in_default-clause-value : goal.returns-in_default-clause-value
+returns-in_default-clause-value c = search mask_stop
 
-pub loop-i-preserved : goal.loop-i-preserved
-loop-i-preserved c = (search rules, simp length-set (search rules), search mask_on, search order_on)
+pub returns-in_default-clause-order_after : goal.returns-in_default-clause-order_after
+returns-in_default-clause-order_after c = search order_stop
 
-pub returns : goal.returns
-returns c = record { value = search mask_all; order_after = search order_all; order_len = search rules }
+pub loop-place-preserved : goal.loop-place-preserved
+loop-place-preserved c = record { mask_of_front = search mask_on; front_of_order = search order_on }
+
+pub returns-clause-value : goal.returns-clause-value
+returns-clause-value c = search mask_all
+
+pub returns-clause-order_after : goal.returns-clause-order_after
+returns-clause-order_after c = search order_all
