@@ -1,20 +1,21 @@
 -- What `find` and `all` of a range, and `position` of a list, give where the closure computes a test: what the meaning's searches say.
-use Rattle.std.specs.Prelude.{ℕ, zero, suc, List, ◌+◌, ◌-◌, ◌<◌, ◌≤◌, ◌≡◌, Bool, true, false, Some, None, MatchBool, MatchOption, get_or, length, option_map, unwrap_or}
+use Rattle.std.specs.Prelude.{ℕ, zero, suc, List, [], ◌∷◌, ◌++◌, ◌+◌, ◌-◌, ◌<◌, ◌≤◌, ◌≡◌, Bool, true, false, Some, None, MatchBool, MatchOption, get_or, length, option_map, unwrap_or}
 use Rattle.std.specs.Prelude as R
 use Rattle.std.specs.Fn.{Called, CalledAt}
-use Rattle.std.specs.Iterator.{YieldsThen}
+use Rattle.std.specs.Iterator.{Drains, YieldsThen}
 use Rattle.std.specs.List.{FoldsTo, AllWithin, HoldsAt, range_with_len}
 use Rattle.std.specs.Slice.Iter.{iter_rest}
 use Rattle.std.specs.declared.slice.Iter.{Iter}
 use Rattle.std.specs.declared.ops.Range.{Range}
-use Rattle.std.proofs.iter.Yields.{fronts, nat_range_steps}
-use Rattle.std.proofs.Common.{refl, sym, subst, arith}
+use Rattle.std.proofs.iter.Yields.{fronts, nat_range_steps, Range-gives}
+use Rattle.std.proofs.Common.{refl, sym, ◌∙◌, subst, arith, add-one, length-append}
+use Rattle.std.proofs.lemmas.Fn.{fold_over}
 use Rattle.std.proofs.Math.Option.{Option, none, some}
 use Rattle.std.proofs.lemmas.Iterator.{first_from_Range, cases_from_all, IsFirst-from_position, YieldsList-from_range, YieldsList-from_slice}
 use Rattle.std.proofs.lemmas.List.FromFn.{length-range_with_len, get_or-range_with_len}
 use denote.Param.Members.{Mut}
 use denote.Ref.{Bor}
-use Rattle.meaning.specs.Searches.{least, or_else, all_below}
+use Rattle.meaning.specs.Searches.{least, or_else, all_below, iterate}
 use Rattle.theory.specs.Found.{least_is, least_nothing}
 use Rattle.theory.specs.Tests.{all_below_true, true_all_below, true_not_false}
 use Rattle.index.specs.Search.{found_of}
@@ -91,6 +92,30 @@ all_gives test s u f r d z calls =
     by : (b : Bool) → MatchBool b (AllWithin (λ k. test k ≡ true) numbers 0 (length numbers)) ((k : ℕ) × (k < length numbers) × HoldsAt (λ k. test k ≡ false) numbers k) → b ≡ all_below test s.end
     by true h = sym (true_all_below test s.end (λ k l. subst (λ m. test m ≡ true) (at k l) (h k 0 (omega arith) (omega (arith, long)))))
     by false h = let l : h.0 < s.end = omega (arith, h.1, long) in sym (one_fails test s.end h.0 l (subst (λ m. test m ≡ false) (at h.0 l) (h.2 0)))
+
+-- `(0..n).fold(a, f)`, where f does h whatever the number
+pub fold_iterates : {F : Type 0} {g : Mut F (ℕ × (ℕ × Unit {0})) ℕ} (h : ℕ → ℕ) (s : Range ℕ) (f : F) (a r : ℕ)
+    → (xs : List ℕ) × (q : F) × Drains nat_range_steps s xs × FoldsTo {P = F × ℕ} (λ p x q. Called g p.0 (p.1, (x, tt)) q.1 q.0) (f, a) xs (q, r)
+    → s.start ≡ 0 → ((x k b : ℕ) (q : F) → Called g f (x, (k, tt)) b q → (q ≡ f) × (b ≡ h x)) → r ≡ iterate h s.end a
+unfolding iterate
+fold_iterates {F} {g} h s f a r d z calls =
+    rw (← long) (fold_over nat_range_steps (λ x. x) g (λ ys b. b ≡ iterate h (length ys) a) f step s numbers a r (Range-gives s) base d)
+  where
+    numbers : List ℕ
+    numbers = range_with_len s.start (s.end - s.start)
+
+    long : length numbers ≡ s.end
+    long = let e = length-range_with_len s.start (s.end - s.start) in omega (arith, e, z)
+
+    base : a ≡ iterate h (length {A = ℕ} []) a
+    base = refl
+
+    step : (ys : List ℕ) (x k b : ℕ) (q : F) → x ≡ iterate h (length ys) a → Called g f (x, (k, tt)) b q
+        → (b ≡ iterate h (length (ys ++ (k ∷ []))) a) × (q ≡ f)
+    step ys x k b q e c =
+        let w = calls x k b q c in
+        let l : length (ys ++ (k ∷ [])) ≡ suc (length ys) = length-append ys (k ∷ []) ∙ add-one (length ys) in
+        (rw (l, w.1, e), w.0)
 
 -- `xs.iter().position(f)`
 pub position_gives : {F : Type 0} {g : Mut F (Bor ℕ × Unit {0}) Bool} (test : ℕ → Bool) (s u : Iter ℕ) (f : F) (r : R.Option ℕ) (ws : List ℕ)

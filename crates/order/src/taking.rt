@@ -85,11 +85,7 @@ impl<'a> Taking<'a> {
     fn shown_from(&self, v: usize) -> usize
         ensures { result ≡ shown_by self.now.masks.now self.now.count self.now.taken v }
     {
-        let mut u = v;
-        for i in 0..CYCLE_MOVES {
-            u = self.move_on(u);
-        }
-        u
+        (0..CYCLE_MOVES).fold(v, |u, _| self.move_on(u))
     }
 
     // The least number of moves, at least 1, from w back to w. The variable shown is met again within as many moves as there are variables.

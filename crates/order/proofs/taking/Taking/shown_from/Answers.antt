@@ -1,12 +1,9 @@
-use borrow.Author.Rules.{rules}
-use Rattle.order.proofs.Takes.{moves_none, moves_on, moves_all}
+use Rattle.std.proofs.Common.{refl, rules}
+use Rattle.index.proofs.Searching.{fold_iterates}
+use Rattle.order.specs.Orders.{move_by, shown_by}
 use Rattle.order.proofs.taking.Taking.shown_from.Goals as goal
 
-pub loop-i-init : goal.loop-i-init
-loop-i-init c = (search rules, search moves_none)
-
-pub loop-i-preserved : goal.loop-i-preserved
-loop-i-preserved c = (search rules, search moves_on)
-
 pub returns : goal.returns
-returns c = search moves_all
+unfolding shown_by
+returns c =
+    fold_iterates (move_by c.args.self.now.masks.now c.args.self.now.count c.args.self.now.taken) _ _ _ _ c.fold.ensures.ran refl (λ x k b q e. search rules)
