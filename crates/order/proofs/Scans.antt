@@ -115,6 +115,8 @@ module _ (ws : List ℕ) (t at : ℕ) (r : Masked) where
   unfolding formula_mask
   formula_event n er = rw (ne_eqb t 3 n) er
 
+pub ruleset formula_laws = (formula_condition, formula_event)
+
 -- ---- rows: what is left from here is the whole
 rows_zero : (ws : List ℕ) (t p m : ℕ) → rows_mask ws t 0 p m ≡ m
 unfolding rows_mask
@@ -176,6 +178,8 @@ module _ (ws ps : List ℕ) (v p w t r : ℕ) (ep : p ≡ get_or ps v 0) (np : p
 
   pub table_event : (t ≡ 3 → ⊥) → r ≡ rows_mask ws t Max.max_rows p 0 → r ≡ table_mask ws (get_or ps v 0)
   table_event n er = er ∙ rw (← ep, ← table_by ws p np, ← ew, ← et, ne_eqb t 3 n)
+
+pub ruleset table_laws = (table_none, table_condition, table_event)
 
 -- ---- the masks of all variables: those filled in so far are the first of them
 abbrev pub masks_to : List ℕ → List ℕ → ℕ → List ℕ

@@ -25,6 +25,7 @@ pub struct Masked {
 
 // ---- what a table reads
 // The variables that the condition at a place tests. `left` levels may still stand.
+#[tactic(auto, using(crate::proofs::Scans::condition_laws))]
 pub fn condition_mask(words: &[u32], at: usize, left: usize) -> Masked
     ensures { result ≡ condition_mask words.now left at }
 {
@@ -61,6 +62,7 @@ pub fn condition_mask(words: &[u32], at: usize, left: usize) -> Masked
 }
 
 // The variables that the event at a place tests inside c of a change. Tests in d read the past, so only d's end is wanted.
+#[tactic(auto, using(crate::proofs::Scans::event_laws))]
 pub fn event_mask(words: &[u32], at: usize, left: usize) -> Masked
     ensures { result ≡ event_mask words.now left at }
 {
@@ -96,6 +98,7 @@ pub fn event_mask(words: &[u32], at: usize, left: usize) -> Masked
 }
 
 // The formula of a row in a table of type t.
+#[tactic(auto, using(crate::proofs::Scans::formula_laws))]
 fn formula_mask(words: &[u32], t: u32, at: usize) -> Masked
     ensures { result ≡ formula_mask words.now t at }
 {
@@ -128,6 +131,7 @@ fn rows_mask(words: &[u32], t: u32, at: usize, first: u32) -> u32
 }
 
 // What variable v reads. A table of type 3 reads the class that its table word names, whatever its rows' modes.
+#[tactic(auto, using(crate::proofs::Scans::table_laws))]
 fn table_mask(set: &Variables, v: usize) -> u32
     ensures { result ≡ table_mask set.now.words.now (get_or set.now.places.now v 0) }
 {
