@@ -159,6 +159,8 @@ module _ (ws : List ℕ) (t i on m at first : ℕ) (inv : rows_mask ws t (Max.ma
     pub rows_on : k ≡ 3 → rows_mask ws t (Max.max_rows - (i + 1)) j.next (bit_or m j.mask) ≡ rows_mask ws t Max.max_rows at first
     rows_on e = rw (eq-eqb k 3 e) at turn
 
+pub ruleset rows_laws = (rows_past, rows_all, rows_last, rows_on)
+
 -- ---- a table
 pub table_none : (ws ps : List ℕ) (v p : ℕ) → p ≡ get_or ps v 0 → p ≡ 0 → 0 ≡ table_mask ws (get_or ps v 0)
 unfolding table_mask
@@ -204,3 +206,5 @@ masks_all ws ps ms n v l m h k i =
     let e : v ≡ Max.max_variables = omega arith in
     let b : length ms ≤ Max.max_variables = omega arith in
     sym (take_all Max.max_variables ms b) ∙ (rw e at i)
+
+pub ruleset masks_laws = (masks_none, masks_on, masks_all)

@@ -131,6 +131,8 @@ module _ (ms : List ℕ) (n i t : ℕ) (xs os : List ℕ) (few : n ≤ Max.max_v
   unfolding taking
   order_on r v h er e = rw (grown v h) (turn (omega (arith, front_length)) (some v) (found_some _ v (sym er ∙ e)))
 
+pub ruleset taking_laws = (mask_start, order_start, mask_on, order_on, mask_stop, order_stop, mask_all, order_all)
+
 -- ---- one move
 pub stuck_read_is : (m t b : ℕ) (x y : Bool) → x ≡ untaken_by t b → y ≡ bit_in m b → x && y ≡ stuck_read m t b
 unfolding stuck_read
@@ -151,10 +153,6 @@ module _ (ms : List ℕ) (n t v : ℕ) where
   unfolding iterate
   moves_on i u r eu er = rw (er, eu, add-one i)
 
-  pub moves_all : (i u : ℕ) → i ≤ Max.cycle_moves → Max.cycle_moves ≤ i → u ≡ iterate (move_by ms n t) i v → u ≡ shown_by ms n t v
-  unfolding shown_by
-  moves_all i u h k eu = let q : i ≡ Max.cycle_moves = omega arith in rw q at eu
-
 -- ---- the moves back
 module _ (ms : List ℕ) (n t w k : ℕ) (i : least (home_by ms n t w) k ≡ none) where
   pub back_none : k ≤ n → n ≤ k → 1 ≡ back_by ms n t w
@@ -173,6 +171,8 @@ module _ (ms : List ℕ) (n t w k : ℕ) (i : least (home_by ms n t w) k ≡ non
     pub back_on : (r ≡ w → ⊥) → least (home_by ms n t w) (k + 1) ≡ none
     back_on e = least_on (home_by ms n t w) k i (home_is ∙ ne_eqb r w e)
 
+pub ruleset back_laws = (least_start, moves_none, moves_on, back_found, back_on, back_none)
+
 -- ---- the cycle
 module _ (ms : List ℕ) (n t : ℕ) (f : R.Option ℕ) (ef : f ≡ found_of (least_stuck t n)) where
   pub cycle_none : f ≡ None → cycle_said (Ok tt) ≡ cycle_by ms n t
@@ -184,6 +184,8 @@ module _ (ms : List ℕ) (n t : ℕ) (f : R.Option ℕ) (ef : f ≡ found_of (le
   unfolding cycle_said cycle_by cycle_of
   cycle_some v w m e ew em = rw (found_some _ v (sym ef ∙ e), em, ew)
 
+pub ruleset cycle_laws = (cycle_none, cycle_some)
+
 -- ---- the whole
 module _ (ws ps ms : List ℕ) (n : ℕ) (e : ms ≡ masks_at ws ps) where
   pub tables_cycle : (t : ℕ) (r : Result (Unit {0}) Cycle) → t ≡ taken_by ms n → cycle_said r ≡ cycle_by ms n t → cycle_said r ≡ no_cycle_at ws ps n
@@ -194,3 +196,5 @@ module _ (ws ps ms : List ℕ) (n : ℕ) (e : ms ≡ masks_at ws ps) where
       → take (length (order_at ws ps n)) xs ≡ order_at ws ps n
   unfolding order_at
   tables_order xs q = rw e at q
+
+pub ruleset tables_laws = (tables_cycle, tables_order)

@@ -110,6 +110,7 @@ fn formula_mask(words: &[u32], t: u32, at: usize) -> Masked
 }
 
 // `first` and what the rows from a place on read.
+#[tactic(auto, using(crate::proofs::Scans::rows_laws))]
 fn rows_mask(words: &[u32], t: u32, at: usize, first: u32) -> u32
     ensures { result ≡ rows_mask words.now t Max.max_rows at first }
 {
@@ -150,6 +151,7 @@ fn table_mask(set: &Variables, v: usize) -> u32
 }
 
 // The masks of all variables. Past the last variable there is no table and the mask is 0.
+#[tactic(auto, using(crate::proofs::Scans::masks_laws))]
 pub fn fill_masks(set: &Variables, masks: &mut [u32])
     requires { length masks.old ≡ Max.max_variables }
     ensures { masks.new ≡ masks_at set.now.words.now set.now.places.now }
@@ -168,6 +170,7 @@ pub struct Cycle {
 
 // Writes the dependency order to the front of `order`, as far as it goes; what stands after it has no meaning. Where a cycle keeps it from
 // reaching every variable, the error shows it.
+#[tactic(auto, using(crate::proofs::Takes::tables_laws))]
 pub fn order_tables(set: &Variables, order: &mut [usize]) -> Result<(), Cycle>
     requires { (set.now.count ≤ Max.max_variables) × (length order.old ≡ Max.max_variables) }
     ensures result_value { cycle_said result ≡ no_cycle_at set.now.words.now set.now.places.now set.now.count }

@@ -21,6 +21,7 @@ pub struct Taking<'a> {
 
 impl<'a> Taking<'a> {
     // ---- the dependency order
+    #[tactic(auto, using(crate::proofs::Takes::untaken_is))]
     fn is_untaken(&self, v: usize) -> bool
         requires { v < Max.max_variables }
         ensures { result ≡ untaken_by self.now.taken v }
@@ -29,6 +30,7 @@ impl<'a> Taking<'a> {
     }
 
     // Is b read by what has the mask m, and not yet taken?
+    #[tactic(auto, using(crate::proofs::Takes::missing_is))]
     fn is_missing(&self, m: u32, b: usize) -> bool
         requires { b < Max.max_variables }
         ensures { result ≡ not (not (bit_in m b) || bit_in self.now.taken b) }
@@ -43,6 +45,7 @@ impl<'a> Taking<'a> {
     }
 
     // Is v untaken, and all that it reads taken?
+    #[tactic(auto, using(crate::proofs::Takes::ready_is))]
     fn is_ready(&self, v: usize) -> bool
         requires { v < self.now.count }
         ensures { result ≡ ready_by self.now.masks.now self.now.count self.now.taken v }
@@ -64,6 +67,7 @@ impl<'a> Taking<'a> {
     }
 
     // Is b stuck, and read by what has the mask m?
+    #[tactic(auto, using(crate::proofs::Takes::stuck_read_is))]
     fn is_stuck_read(&self, m: u32, b: usize) -> bool
         requires { b < Max.max_variables }
         ensures { result ≡ stuck_read m self.now.taken b }
@@ -89,6 +93,7 @@ impl<'a> Taking<'a> {
     }
 
     // The least number of moves, at least 1, from w back to w. The variable shown is met again within as many moves as there are variables.
+    #[tactic(auto, using(crate::proofs::Takes::back_laws))]
     fn moves_back(&self, w: usize) -> usize
         ensures { result ≡ back_by self.now.masks.now self.now.count self.now.taken w }
     {
@@ -103,6 +108,7 @@ impl<'a> Taking<'a> {
     }
 
     // Is every variable in the order? Else the cycle shown.
+    #[tactic(auto, using(crate::proofs::Takes::cycle_laws))]
     pub fn find_cycle(&self) -> Result<(), Cycle>
         ensures { cycle_said result ≡ cycle_by self.now.masks.now self.now.count self.now.taken }
     {
@@ -118,6 +124,7 @@ impl<'a> Taking<'a> {
 }
 
 // Writes the order of the variables that have these masks, and gives the mask of those in it.
+#[tactic(auto, using(crate::proofs::Takes::taking_laws))]
 pub fn take_ready(masks: &[u32], count: usize, order: &mut [usize]) -> u32
     requires { (count ≤ Max.max_variables) × (length order.old ≡ Max.max_variables) }
     ensures value { result ≡ taken_by masks.now count }
