@@ -38,6 +38,10 @@ pub join_or : (k : ℕ) (a b : Bool) → (k ≡ 6 → ⊥) → (a || b) ≡ join
 unfolding joined_by
 join_or k a b n = rw (ne_eqb k 6 n)
 
+pub ruleset test_laws = (test_equal, test_most)
+
+pub ruleset join_laws = (join_and, join_or)
+
 -- ---- judge
 pub judge_none : (ws b : List ℕ) (n at : ℕ) → n ≡ 0 → record { value = false; next = at } ≡ judge_at ws b n at
 unfolding judge_at
@@ -99,6 +103,8 @@ change_true s x y z e = rw e
 pub change_false : (s : ℕ) (x y z : Bool) → (s ≡ 1 → ⊥) → (x && not y && z) ≡ changed_by s x y z
 unfolding changed_by
 change_false s x y z n = rw (ne_eqb s 1 n)
+
+pub ruleset changed_laws = (change_true, change_false)
 
 pub change_law : (ws a b : List ℕ) (n w at s : ℕ) (x y z : Judged) (v : Bool)
     → x ≡ judge_at ws a n at → y ≡ judge_at ws b n at → z ≡ judge_at ws a n x.next → s ≡ W.sort w
@@ -215,3 +221,5 @@ module _ (ws : List ℕ) (f : ℕ → Judged) (x : ℕ) where
 
       pub rows_on : not q ≡ false → rows_at ws f x (Max.max_rows - (i + 1)) (i + 1) j.next r ≡ all
       rows_on e = rw (not-false q e) at turn
+
+pub ruleset rows_laws = (rows_out, rows_all, rows_end, rows_on)

@@ -1,6 +1,6 @@
 -- The dependency order and the cycle shown, worked out from masks: the meaning's own definitions with a bit of a mask for each of
 -- their tests. ms are the masks of what each variable reads, n is the number of variables.
-use Rattle.std.specs.Prelude.{ℕ, zero, suc, Bool, not, ◌&&◌, ◌||◌, List, [], ◌∷◌, eqb, get_or}
+use Rattle.std.specs.Prelude.{ℕ, zero, suc, Bool, not, ◌&&◌, ◌||◌, List, [], ◌∷◌, eqb, get_or, Result, Ok, Err}
 use Rattle.std.proofs.Math.Option.{Option, none, some}
 use Rattle.std.specs.Int.Bits.{bit_or}
 use Rattle.word.specs.Limits as Max
@@ -8,20 +8,13 @@ use Rattle.meaning.specs.Answers.{Outcome, ok, refuse}
 use Rattle.meaning.specs.Searches.{least, or_else, all_below, iterate}
 use Rattle.meaning.specs.Order.{taking}
 use Rattle.index.specs.Bits.{bit_in, one_bit}
-use Rattle.order.specs.declared.Found.{Found}
-use Rattle.order.specs.declared.Found.TheVariants.{At, Nothing}
-use Rattle.order.specs.declared.Order.{Order}
-use Rattle.order.specs.declared.Order.TheVariants.{All, Cycle}
+use Rattle.order.specs.declared.Cycle.{Cycle}
 use Rattle.order.specs.Masks.{masks_at}
 
-unfoldable pub found_of : Option ℕ → Found
-found_of none = Nothing
-found_of (some v) = At v
-
 -- document 01's number and values for each case
-unfoldable pub cycle_said : Order → Outcome (Unit {0})
-cycle_said All = ok tt
-cycle_said (Cycle w m) = refuse 9 (w ∷ m ∷ [])
+unfoldable pub cycle_said : Result (Unit {0}) Cycle → Outcome (Unit {0})
+cycle_said (Ok u) = ok tt
+cycle_said (Err c) = refuse 9 (c.variable ∷ c.length ∷ [])
 
 -- the mask m with the variables of a list
 unfoldable pub mask_of : List ℕ → ℕ → ℕ

@@ -1,26 +1,16 @@
--- Scans for the lowest place that passes a test, and what they say of a table's part.
-use mathlib.Core.Path.{◌≡◌, refl, sym, ◌∙◌}
-use mathlib.Core.Bool.{Bool, true, false, ◌&&◌, ◌||◌}
-use mathlib.Core.Option.{Option, none, some}
-use mathlib.Core.List.{List, []}
-use Prim.Native.Nat.{ℕ, suc, ◌+◌, ◌-◌, ◌≤◌, ◌<◌}
-use native.Mathlib.Omega.{arith}
-use lib.Dec.{eqb}
-use lib.ListN.{length, take, drop}
+-- Where a part starts and ends, from the first word that passes a test; and what they say of a table's part.
+use Rattle.std.specs.Prelude.{ℕ, suc, ◌+◌, ◌-◌, ◌≤◌, ◌<◌, ◌≡◌, Bool, ◌&&◌, ◌||◌, List, [], eqb, length, take, drop, get_or, option_map, unwrap_or}
+use Rattle.std.specs.Prelude as R
+use Rattle.std.proofs.Common.{refl, sym, arith, add-one}
+use Rattle.std.proofs.Math.Option.{Option, none, some}
 use Rattle.word.specs.Fields as W
 use Rattle.meaning.specs.Searches.{least, or_else}
 use Rattle.meaning.specs.Reading.{word}
 use Rattle.meaning.specs.Calls.{is_table_of, ends_table, part_length, part_from}
-use Rattle.theory.specs.Found.{LeastView, absent, found, least_view, least_on, least_found, least_none}
+use Rattle.theory.specs.Found.{LeastView, absent, found, least_view}
+use Rattle.index.specs.Search.{found_of}
+use Rattle.index.proofs.Searching.{unwrap_found, unwrap_found_from}
 use Rattle.part.specs.Part.{start_at, end_at}
-
-pub is_table_is : (ws : List ℕ) (v i w k d : ℕ) → w ≡ word ws i → k ≡ W.kind w → d ≡ W.defined w → (eqb k 2 && eqb d v) ≡ is_table_of ws v i
-unfolding is_table_of
-is_table_is ws v i w k d ew ek ed = rw (ek, ed, ew)
-
-pub ends_table_is : (ws : List ℕ) (i w k : ℕ) → w ≡ word ws i → k ≡ W.kind w → (eqb k 2 || eqb k 10) ≡ ends_table ws i
-unfolding ends_table
-ends_table_is ws i w k ew ek = rw (ek, ew)
 
 least_most : (f : ℕ → Bool) (n : ℕ) → or_else (least f n) n ≤ n
 unfolding or_else
@@ -31,45 +21,25 @@ least_most f n = go (least_view f n)
     go (found k l t h) = omega arith
 
 -- ---- where a part starts
-module _ (ws : List ℕ) (v i : ℕ) (inv : least (is_table_of ws v) i ≡ none) (b : Bool) (eb : b ≡ is_table_of ws v i) where
-  pub start_here : i < length ws → b ≡ true → i ≡ start_at ws v
-  unfolding start_at
-  start_here h t = sym (least_found (is_table_of ws v) (length ws) i h inv (sym eb ∙ t))
-
-  pub start_on : b ≡ false → least (is_table_of ws v) (i + 1) ≡ none
-  start_on t = least_on (is_table_of ws v) i inv (sym eb ∙ t)
-
-pub start_none : (ws : List ℕ) (v i : ℕ) → least (is_table_of ws v) i ≡ none → i ≤ length ws → length ws ≤ i → length ws ≡ start_at ws v
-unfolding start_at
-start_none ws v i inv h k = sym (least_none (is_table_of ws v) (length ws) i h k inv)
+pub start_is : (ws : List ℕ) (v r : ℕ) (o : R.Option ℕ)
+    → o ≡ found_of (least (λ k. eqb (W.kind (get_or ws k 0)) 2 && eqb (W.defined (get_or ws k 0)) v) (length ws))
+    → r ≡ unwrap_or o (length ws) → r ≡ start_at ws v
+unfolding start_at is_table_of word
+start_is ws v r o e u = rw (u, e, unwrap_found)
 
 -- ---- where a part ends; `Ends` is the test of the words after the table word
 abbrev pub Ends : List ℕ → ℕ → ℕ → Bool
 Ends ws a k = ends_table ws (suc a + k)
 
-module _ (ws : List ℕ) (a i : ℕ) (low : a + 1 ≤ i) (inv : least (Ends ws a) (i - (a + 1)) ≡ none) where
-  place : suc a + (i - (a + 1)) ≡ i
-  place = omega arith
+pub ends_is : (ws : List ℕ) (i w : ℕ) → w ≡ word ws i → (eqb (W.kind w) 2 || eqb (W.kind w) 10) ≡ ends_table ws i
+unfolding ends_table
+ends_is ws i w e = rw e
 
-  pub end_here : (b : Bool) → i < length ws → b ≡ ends_table ws i → b ≡ true → i ≡ end_at ws a
-  unfolding end_at part_length
-  end_here b h eb t =
-      let e : Ends ws a (i - (a + 1)) ≡ true = rw place (sym eb ∙ t) in
-      let l : i - (a + 1) < length ws - suc a = omega arith in
-      sym (rw (least_found (Ends ws a) (length ws - suc a) (i - (a + 1)) l inv e) place)
-
-  pub end_on : (b : Bool) → b ≡ ends_table ws i → b ≡ false → least (Ends ws a) (i + 1 - (a + 1)) ≡ none
-  end_on b eb t =
-      let e : Ends ws a (i - (a + 1)) ≡ false = rw place (sym eb ∙ t) in
-      let q : i + 1 - (a + 1) ≡ i - (a + 1) + 1 = omega arith in
-      rw q (least_on (Ends ws a) (i - (a + 1)) inv e)
-
-  pub end_none : a < length ws → i ≤ length ws → length ws ≤ i → length ws ≡ end_at ws a
-  unfolding end_at part_length
-  end_none l h k =
-      let h' : i - (a + 1) ≤ length ws - suc a = omega arith in
-      let k' : length ws - suc a ≤ i - (a + 1) = omega arith in
-      sym (rw (least_none (Ends ws a) (length ws - suc a) (i - (a + 1)) h' k' inv) (omega arith))
+pub end_is : (ws : List ℕ) (a r : ℕ) (o : R.Option ℕ) → a < length ws
+    → o ≡ option_map (λ k. a + 1 + k) (found_of (least (λ k. ends_table ws (a + 1 + k)) (length ws - (a + 1))))
+    → r ≡ unwrap_or o (length ws) → r ≡ end_at ws a
+unfolding end_at part_length
+end_is ws a r o h e u = rw (u, e, unwrap_found_from (a + 1) (length ws) _ (omega arith), add-one a)
 
 -- ---- the part lies within the words
 pub end_after : (ws : List ℕ) (a b : ℕ) → b ≡ end_at ws a → a ≤ b
@@ -102,7 +72,3 @@ part_none ws v a ea h = go (least_view (is_table_of ws v) (length ws)) (rw ea at
     go : {o : Option ℕ} → LeastView (is_table_of ws v) (length ws) o → length ws ≤ or_else o (length ws) → [] ≡ part_from ws o
     go (absent g) k = refl
     go (found i l t g) k = let x : ⊥ = omega arith in absurd x
-
-pub first_none : (f : ℕ → Bool) (n : ℕ) → least f (n - n) ≡ none
-unfolding least
-first_none f n = let q : n - n ≡ 0 = omega arith in rw q

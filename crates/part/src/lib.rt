@@ -1,24 +1,25 @@
 // The part of the words that is a table: from its table word to before the next table or assertion, or to the end.
 #![tactic(auto)]
 
-ghost use Rattle.std.specs.Prelude.{◌≡◌, ◌+◌, ◌<◌, length};
-ghost use Rattle.meaning.specs.Calls.{is_table_of, ends_table};
+ghost use Rattle.std.specs.Prelude.{◌≡◌, ◌+◌, ◌<◌, ◌&&◌, ◌||◌, eqb, length};
+ghost use Rattle.word.specs.Fields as W;
 ghost use Rattle.part.specs.Part.{start_at, end_at};
 
 use index::word_at;
 use word::{Kind, defined, kind};
 
-fn is_table(words: &[u32], variable: u32, i: usize) -> bool
-    ensures { result ≡ is_table_of words.now variable i }
+// Is the word the table word of the variable?
+fn is_table(word: u32, variable: u32) -> bool
+    ensures { result ≡ (eqb (W.kind word) 2 && eqb (W.defined word) variable) }
 {
-    let w = word_at(words, i);
-    (kind(w) == Kind::Table as u32) & (defined(w) == variable)
+    (kind(word) == Kind::Table as u32) & (defined(word) == variable)
 }
 
-fn ends_table(words: &[u32], i: usize) -> bool
-    ensures { result ≡ ends_table words.now i }
+// Does the word stand after a table?
+fn ends_table(word: u32) -> bool
+    ensures { result ≡ (eqb (W.kind word) 2 || eqb (W.kind word) 10) }
 {
-    let k = kind(word_at(words, i));
+    let k = kind(word);
     (k == Kind::Table as u32) | (k == Kind::Assertion as u32)
 }
 
@@ -26,12 +27,10 @@ fn ends_table(words: &[u32], i: usize) -> bool
 pub fn part_start(words: &[u32], variable: u32) -> usize
     ensures { result ≡ start_at words.now variable }
 {
-    for i in 0..words.len() {
-        if is_table(words, variable, i) {
-            return i;
-        }
-    }
-    words.len()
+    words
+        .iter()
+        .position(|w| is_table(*w, variable))
+        .unwrap_or(words.len())
 }
 
 // The place after the table whose table word stands at `start`.
@@ -39,10 +38,8 @@ pub fn part_end(words: &[u32], start: usize) -> usize
     requires { start < length words.now }
     ensures { result ≡ end_at words.now start }
 {
-    for i in start + 1..words.len() {
-        if ends_table(words, i) {
-            return i;
-        }
-    }
-    words.len()
+    let n = words.len();
+    (start + 1..n)
+        .find(|i| ends_table(word_at(words, *i)))
+        .unwrap_or(n)
 }

@@ -1,15 +1,11 @@
-use borrow.Author.Rules.{rules}
-use Rattle.part.proofs.Laws.{first_none, end_here, end_on, end_none}
+use Rattle.std.proofs.Common.{rules}
+use Rattle.meaning.specs.Calls.{ends_table}
+use Rattle.index.proofs.Searching.{find_from_gives}
+use Rattle.part.proofs.Laws.{end_is, ends_is}
 use Rattle.part.proofs.part_end.Goals as goal
 
-pub loop-i-init : goal.loop-i-init
-loop-i-init c = (search rules, search rules, first_none _ _)
-
-pub returns-then-ends_table : goal.returns-then-ends_table
-returns-then-ends_table c = search end_here
-
-pub loop-i-preserved : goal.loop-i-preserved
-loop-i-preserved c = (search rules, search rules, search end_on)
-
 pub returns : goal.returns
-returns c = search end_none
+returns c =
+    end_is _ _ _ _ c.requires
+    (find_from_gives (ends_table c.args.words.now) _ _ _ _ c.find.ensures.ran (λ x b q k. search (rules, ends_is)))
+    c.unwrap_or.ensures

@@ -1,17 +1,12 @@
-use borrow.Author.Rules.{rules}
-use Rattle.meaning.specs.Searches.{least}
-use mathlib.Core.Path.{refl}
-use Rattle.part.proofs.Laws.{start_here, start_on, start_none}
+use Rattle.std.specs.Prelude.{◌&&◌, eqb}
+use Rattle.std.proofs.Common.{rules}
+use Rattle.word.specs.Fields as W
+use Rattle.index.proofs.Searching.{position_gives}
+use Rattle.part.proofs.Laws.{start_is}
 use Rattle.part.proofs.part_start.Goals as goal
 
-pub loop-i-init : goal.loop-i-init
-loop-i-init c = (search rules, unfold least in refl)
-
-pub returns-then-is_table : goal.returns-then-is_table
-returns-then-is_table c = search start_here
-
-pub loop-i-preserved : goal.loop-i-preserved
-loop-i-preserved c = (search rules, search start_on)
-
 pub returns : goal.returns
-returns c = search start_none
+returns c =
+    start_is _ _ _ _
+    (position_gives (λ w. eqb (W.kind w) 2 && eqb (W.defined w) c.args.variable) _ _ _ _ _ c.position.ensures.ran c.iter.ensures.rest (λ x b q k. search rules))
+    c.unwrap_or.ensures

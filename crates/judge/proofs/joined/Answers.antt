@@ -1,8 +1,0 @@
-use Rattle.judge.proofs.Laws.{join_and, join_or}
-use Rattle.judge.proofs.joined.Goals as goal
-
-pub returns-then-k : goal.returns-then-k
-returns-then-k c = search join_and
-
-pub returns-else-k : goal.returns-else-k
-returns-else-k c = search join_or

@@ -1,5 +1,0 @@
-use Rattle.order.proofs.Takes.{missing_is}
-use Rattle.order.proofs.missing.Goals as goal
-
-pub returns : goal.returns
-returns c = search missing_is

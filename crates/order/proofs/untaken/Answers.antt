@@ -1,5 +1,0 @@
-use Rattle.order.proofs.Takes.{untaken_is}
-use Rattle.order.proofs.untaken.Goals as goal
-
-pub returns : goal.returns
-returns c = search untaken_is
