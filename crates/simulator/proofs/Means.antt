@@ -1,13 +1,6 @@
 -- What the code settles from words and places is what the meaning settles of the set that has been read.
-use mathlib.Core.Path.{◌≡◌, refl, ap, ◌∙◌}
-use mathlib.Core.Bool.{Bool, true, false}
-use mathlib.Core.List.{List, [], ◌∷◌}
-use Prim.Native.Nat.{ℕ, suc, ◌%◌, ◌≤◌, ◌<◌}
-use native.Mathlib.Omega.{arith}
-use native.Mathlib.Nat.{mod-eq_of_lt}
-use lib.ListN.{get_or}
-use lib.ListN.{set as put}
-use borrow.Author.Tests.{ne_eqb, eq-eqb}
+use Rattle.std.proofs.Common.{◌≡◌, refl, ap, ◌∙◌, ℕ, suc, ◌%◌, ◌≤◌, ◌<◌, Bool, true, false, List, [], ◌∷◌, arith, mod-eq_of_lt, get_or, ne_eqb, eq-eqb, Ok, Err}
+use Rattle.std.proofs.Common.{set as put}
 use Rattle.word.specs.Fields as W
 use Rattle.word.specs.Limits as Max
 use Rattle.meaning.specs.Answers.{Outcome, ok, refuse, ◌>>=◌, demand}
@@ -31,9 +24,7 @@ use Rattle.theory.specs.WellFormed.{WellFormed}
 use Rattle.theory.specs.Orders.{ordered_below}
 use Rattle.theory.specs.Valuations.{valuation_typed}
 use Rattle.theory.specs.StepExactly.{step_at_exactly}
-use Rattle.simulator.specs.declared.Given.{Given}
-use Rattle.simulator.specs.declared.Given.TheVariants as G
-use Rattle.simulator.specs.Walks.{condition_of, event_of, condition_given, event_given, given_in_by, given_in, given_after_by, given_after, onward, walk, state_walk, step_walk, given_says, settled_says, walk_says}
+use Rattle.simulator.specs.Walks.{condition_of, event_of, condition_given, event_given, given_in_by, given_in, given_after_by, given_after, onward, Given, walk, state_walk, step_walk, clash_is, given_says, settled_says, walk_says}
 use Rattle.simulator.specs.StepIndex.{after_index, step_index}
 use Rattle.meaning.specs.Run.{run_from}
 use Rattle.simulator.specs.RunIndex.{run_index}
@@ -41,14 +32,14 @@ use Rattle.simulator.specs.RunIndex.{run_index}
 -- ---- what a table gives, as an answer
 condition_says : (side s : ℕ) (e : Input) (v : ℕ) (rs : List (Row Condition)) (h : Hits)
     → given_says side s e v (condition_of (got_of rs h)) ≡ condition_gives side s v rs h
-unfolding given_says condition_of got_of condition_gives
+unfolding given_says clash_is condition_of got_of condition_gives
 condition_says side s e v rs no_hit = refl
 condition_says side s e v rs (one_hit i) = refl
 condition_says side s e v rs (two_hits i j) = refl
 
 event_says : (side s : ℕ) (e : Input) (v : ℕ) (rs : List (Row Event)) (x : ℕ) (h : Hits)
     → given_says side s e v (event_of x (got_of rs h)) ≡ event_gives s e v rs x h
-unfolding given_says event_of got_of event_gives
+unfolding given_says clash_is event_of got_of event_gives
 event_says side s e v rs x no_hit = refl
 event_says side s e v rs x (one_hit i) = refl
 event_says side s e v rs x (two_hits i j) = refl
@@ -84,10 +75,8 @@ walk_settles side s e g (v ∷ os) b = go (g b v) (λ k. walk_settles side s e g
     go : (r : Given) → ((k : ℕ) → walk_says side s e (walk g os (put b v k)) ≡ settle (λ b v. given_says side s e v (g b v)) os (put b v k))
         → walk_says side s e (onward v r (λ k. walk g os (put b v k)))
         ≡ (given_says side s e v r >>= λ x. settle (λ b v. given_says side s e v (g b v)) os (put b v x))
-    go (G.Is k) h = h k
-    go G.Gap h = refl
-    go (G.Overlap i j) h = refl
-    go (G.StepOverlap i j) h = refl
+    go (Ok k) h = h k
+    go (Err why) h = refl
 
 -- rules that agree at the variables of the order settle alike
 settle_same : (f g : Values → ℕ → Outcome ℕ) (os : List ℕ) (b : Values) → ((b : Values) (v : ℕ) → mem v os ≡ true → f b v ≡ g b v)

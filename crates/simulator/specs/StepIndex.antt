@@ -1,5 +1,5 @@
 -- The step as the code works it out over the index of a set, with document 01's refusals.
-use Rattle.std.specs.Prelude.{ℕ, ◌%◌, List, [], ◌∷◌}
+use Rattle.std.specs.Prelude.{ℕ, ◌%◌, List, [], ◌∷◌, Result, Ok, Err}
 use Rattle.word.specs.Fields as W
 use Rattle.meaning.specs.Answers.{Outcome, ok, refuse, ◌>>=◌, demand}
 use Rattle.meaning.specs.Searches.{list_of}
@@ -7,17 +7,24 @@ use Rattle.meaning.specs.States.{Values}
 use Rattle.meaning.specs.Steps.{Input, input_of}
 use Rattle.index.specs.Numbers.{word_number_count}
 use Rattle.state.specs.Held.{digit_at, number_at, enabled_at}
-use Rattle.simulator.specs.declared.Stepped.{Stepped}
-use Rattle.simulator.specs.declared.Stepped.TheVariants as R
-use Rattle.simulator.specs.Walks.{walk_says, state_walk, step_walk}
+use Rattle.simulator.specs.declared.NoStep.{NoStep}
+use Rattle.simulator.specs.declared.NoStep.TheVariants.{NotEnabled, Before, After}
+use Rattle.simulator.specs.Walks.{clash_is, walk_says, state_walk, step_walk}
+
+-- how a step ends: the state after it, or why there is none
+abbrev pub Stepped : Type 0
+Stepped = Result ℕ NoStep
+
+-- why there is no step from state s by e: the number of the refusal, and what it carries
+unfoldable pub no_step_is : ℕ → Input → NoStep → ℕ × List ℕ
+no_step_is s e (NotEnabled i) = (16, i ∷ [])
+no_step_is s e (Before x) = clash_is 0 s e x.variable x.why
+no_step_is s e (After x) = clash_is 1 s e x.variable x.why
 
 -- the answer of a step from state s by e
 unfoldable pub stepped_says : ℕ → Input → Stepped → Outcome ℕ
-stepped_says s e (R.State t) = ok t
-stepped_says s e (R.NotEnabled i) = refuse 16 (i ∷ [])
-stepped_says s e (R.Gap side v) = refuse 10 (side ∷ s ∷ v ∷ [])
-stepped_says s e (R.Overlap side v i j) = refuse 11 (side ∷ s ∷ v ∷ i ∷ j ∷ [])
-stepped_says s e (R.StepOverlap v i j) = refuse 12 (s ∷ e.variable ∷ e.value ∷ v ∷ i ∷ j ∷ [])
+stepped_says s e (Ok t) = ok t
+stepped_says s e (Err r) = refuse (no_step_is s e r).0 (no_step_is s e r).1
 
 -- from the values a of state s by event word w
 unfoldable pub after_index : List ℕ → List ℕ → List ℕ → List ℕ → ℕ → ℕ → ℕ → Values → Outcome ℕ

@@ -4,55 +4,38 @@ ghost use Rattle.std.proofs.lemmas.List.Edits.{sets};
 ghost use Rattle.word.specs.Limits as Max;
 ghost use Rattle.simulator.specs.RunIndex.{ended_says, run_index};
 
-use crate::{Stepped, step_from};
+use crate::{NoStep, step_from};
+use index::Index;
 use word::Value;
 
-// How a run ended: with the last state, or at the first event not done, with the state before it, its word and what its step gave. The
-// refusals of a step carry that state and that word's input event.
+// The first event that is not done: the state before it, its word, and why there is no step.
 #[derive(Clone, Copy)]
-pub enum Ended {
-    Last(u32),
-    Refused(u32, u32, Stepped),
+pub struct Stopped {
+    pub state: u32,
+    pub event: u32,
+    pub why: NoStep,
 }
 
-// The events from state s on. The state after each event done is written to the event's place in the lent list; before and after are
-// lent for the values of one step, an element for each of the n variables.
+// The last state of the events from state s on. The state after each event done is written to the event's place in the lent list; before and
+// after are lent for the values of one step, an element for each variable.
 pub fn run_events(
-    words: &[u32],
-    places: &[usize],
-    weights: &[u32],
-    n: usize,
-    order: &[usize],
+    index: &Index,
     s: u32,
     events: &[u32],
     before: &mut [Value],
     after: &mut [Value],
     trace: &mut [u32],
-) -> Ended
-    requires { (length before.old ≡ n) × (length after.old ≡ n) × (n ≤ Max.max_variables) × (length events.now ≤ length trace.old) }
-    ensures result_value { ended_says result ≡ (run_index words.now places.now weights.now order.now n 0 s events.now).last }
-    ensures trace_after { trace.new ≡ sets trace.old 0 (run_index words.now places.now weights.now order.now n 0 s events.now).done }
+) -> Result<u32, Stopped>
+    requires { (length before.old ≡ index.now.variables.count) × (length after.old ≡ index.now.variables.count) × (index.now.variables.count ≤ Max.max_variables) × (length events.now ≤ length trace.old) }
+    ensures result_value { ended_says result ≡ (run_index index.now.variables.words.now index.now.variables.places.now index.now.weights.now index.now.order.now index.now.variables.count 0 s events.now).last }
+    ensures trace_after { trace.new ≡ sets trace.old 0 (run_index index.now.variables.words.now index.now.variables.places.now index.now.weights.now index.now.order.now index.now.variables.count 0 s events.now).done }
 {
-    let mut last = s;
-    for i in 0..events.len() {
-        let w = events[i];
-        let r = step_from(
-            words,
-            places,
-            weights,
-            n,
-            order,
-            i,
-            last,
-            w,
-            &mut before[..],
-            &mut after[..],
-        );
-        let Stepped::State(t) = r else {
-            return Ended::Refused(last, w, r);
-        };
-        trace[i] = t;
-        last = t;
+    let mut state = s;
+    for (i, &event) in events.iter().enumerate() {
+        let step = step_from(index, i, state, event, before, after);
+        let next = step.map_err(|why| Stopped { state, event, why })?;
+        trace[i] = next;
+        state = next;
     }
-    Ended::Last(last)
+    Ok(state)
 }

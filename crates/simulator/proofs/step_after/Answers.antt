@@ -1,14 +1,17 @@
-use Rattle.simulator.proofs.Laws.{after_gap, after_overlap, after_step, after_done}
+use Rattle.std.proofs.Common.{rules}
+use Rattle.std.proofs.lemmas.Result.{err_from_is_err_and}
+use Rattle.simulator.specs.declared.NoStep.TheVariants.{After}
+use Rattle.simulator.proofs.Handed.{handed_err, handed_ok}
+use Rattle.simulator.proofs.Laws.{after_fault, after_done}
 use Rattle.simulator.proofs.step_after.Goals as goal
 
-pub returns-in-Gap : goal.returns-in-Gap
-returns-in-Gap c = search after_gap
+pub returns-in_err-map_err : goal.returns-in_err-map_err
+returns-in_err-map_err c =
+    let p = err_from_is_err_and c.from_residual.result c.from_residual.ensures.1 in
+    let q = handed_err c.settle_step.result c.map_err.result _ c.map_err.ensures.cases (λ e. After e) (λ e d h. search rules) _ c.in_err-map_err.was in
+    rw (p.1, p.2, q.2) (after_fault _ _ _ _ _ _ _ _ _ _ _ _ c.copy.ensures c.variable.ensures c.given.ensures c.settle_step.ensures.after_after _ q.1)
 
-pub returns-in-Overlap : goal.returns-in-Overlap
-returns-in-Overlap c = search after_overlap
-
-pub returns-in-StepOverlap : goal.returns-in-StepOverlap
-returns-in-StepOverlap c = search after_step
-
-pub returns-in-Done : goal.returns-in-Done
-returns-in-Done c = search after_done
+pub returns : goal.returns
+returns c =
+    let q = handed_ok c.settle_step.result c.map_err.result _ c.map_err.ensures.cases _ c.in_ok-map_err.was in
+    search after_done
