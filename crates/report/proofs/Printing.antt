@@ -13,9 +13,9 @@ use Rattle.meaning.specs.Reading.{word}
 use Rattle.meaning.specs.Program.{decimal, fields, pass_line, refuse_line, event_line, event_lines}
 use Rattle.scr.specs.declared.Counts.{Counts}
 use Rattle.scr.specs.declared.Refusal.{Refusal}
-use Rattle.scr.specs.declared.telling.Told.{Told}
+use Rattle.scr.specs.declared.told.Told.{Told}
 use Rattle.scr.specs.Answers.{refusal_says}
-use Rattle.scr.specs.Telling.{Tells}
+use Rattle.scr.specs.Telling.{told_says}
 use Rattle.report.specs.Text.{buffer, ◌with◌, Puts}
 use Rattle.report.specs.Lines.{counts_of}
 use Rattle.report.specs.Room as Room
@@ -53,11 +53,11 @@ pub pass_put : (xs ys zs : List ℕ) (at on r : ℕ) (c : Counts) → Puts (80 �
 unfolding pass_line
 pass_put xs ys zs at on r c e q = rw (q, e, with_then)
 
-pub refusal_put : (xs ns fs zs : List ℕ) (at named on r : ℕ) (t : Told) (q : Refusal) → Tells t (refusal_says q)
+pub refusal_put : (xs ns fs zs : List ℕ) (at named on r : ℕ) (t : Told) (q : Refusal) → told_says t ≡ refusal_says q
     → Puts (82 ∷ 69 ∷ 70 ∷ 85 ∷ 83 ∷ 69 ∷ []) xs at ns named → Puts (32 ∷ decimal t.number) ns named fs on
     → Puts (fields (take (t.count - 0) (drop 0 t.carried))) fs on zs r → Puts (refuse_line (refusal_says q).0 (refusal_says q).1) xs at zs r
-unfolding refuse_line fields
-refusal_put xs ns fs zs at named on r t q h en ef ez = rw (ez, ef, en, h.number, sub-zero t.count, h.carried) (simp with_then)
+unfolding refuse_line fields told_says
+refusal_put xs ns fs zs at named on r t q h en ef ez = rw (ez, ef, en, sub-zero t.count, ← h) (simp with_then)
 
 -- ---- the lines of events
 -- the bytes of one whose index a run can have are few
