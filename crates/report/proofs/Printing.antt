@@ -1,21 +1,23 @@
 -- Laws of lines in the buffer, one for each way out.
 use mathlib.Core.Path.{◌≡◌, sym, ◌∙◌}
+use Rattle.std.proofs.Common.{append_assoc}
 use mathlib.Core.List.{List, [], ◌∷◌}
 use Prim.Native.Nat.{ℕ, ◌+◌, ◌-◌, ◌^◌, ◌<◌, ◌≤◌}
 use native.Mathlib.Omega.{arith}
 use native.Mathlib.Numerals.{add-one}
 use native.Mathlib.Nat.{sub-zero}
 use lib.ListN.{length, get_or, take, drop, drop_of_length-le, length-append}
-use lib.Seq.{take-suc, take_all, drop-cons}
+use lib.Seq.{take-suc, take_all, drop-cons, drop-drop, sets-eq}
 use Rattle.word.specs.Fields as W
 use Rattle.word.specs.Limits as Max
 use Rattle.meaning.specs.Reading.{word}
 use Rattle.meaning.specs.Program.{decimal, fields, pass_line, refuse_line, event_line, event_lines}
 use Rattle.scr.specs.declared.Counts.{Counts}
 use Rattle.scr.specs.declared.Refusal.{Refusal}
-use Rattle.scr.specs.declared.telling.Told.{Told}
+use Rattle.scr.specs.declared.told.Told.{Told}
 use Rattle.scr.specs.Answers.{refusal_says}
-use Rattle.scr.specs.Telling.{Tells}
+use Rattle.scr.specs.Telling.{told_says}
+use borrow.Rule.Slice.PartMut.{put_mid}
 use Rattle.report.specs.Text.{buffer, ◌with◌, Puts}
 use Rattle.report.specs.Lines.{counts_of}
 use Rattle.report.specs.Room as Room
@@ -23,15 +25,11 @@ use Rattle.report.proofs.Putting.{with_none, with_then, puts_place}
 use Rattle.report.proofs.Numbers.{decimal_few}
 
 -- ---- a name
-pub name_none : (name xs : List ℕ) (at : ℕ) → Puts (take 0 name) xs at xs at
-name_none name xs at = rw with_none
-
-pub name_on : (name xs ys zs : List ℕ) (at on r i : ℕ) → i < length name → Puts (take i name) xs at ys on → Puts (get_or name i 0 ∷ []) ys on zs r
-    → Puts (take (i + 1) name) xs at zs r
-name_on name xs ys zs at on r i h e q = rw (q, e, add-one i, take-suc name i 0 h, with_then)
-
-pub name_all : (name xs ys : List ℕ) (at on i : ℕ) → length name ≤ i → Puts (take i name) xs at ys on → Puts name xs at ys on
-name_all name xs ys at on i h e = rw (take_all i name h) at e
+pub name_put : (name xs ys : List ℕ) (at : ℕ) → at + length name ≤ length xs → ys ≡ name → Puts name xs at (put_mid at (at + length name - at) xs ys) (at + length name)
+unfolding ◌with◌
+name_put name xs ys at h e =
+    let k : at + length name - at ≡ length name = omega arith in
+    rw (e, sets-eq name xs at h, k, drop-drop, append_assoc)
 
 -- ---- fields
 pub field_put : (xs ys zs : List ℕ) (at on r n : ℕ) → Puts (32 ∷ []) xs at ys on → Puts (decimal n) ys on zs r → Puts (32 ∷ decimal n) xs at zs r
@@ -53,11 +51,11 @@ pub pass_put : (xs ys zs : List ℕ) (at on r : ℕ) (c : Counts) → Puts (80 �
 unfolding pass_line
 pass_put xs ys zs at on r c e q = rw (q, e, with_then)
 
-pub refusal_put : (xs ns fs zs : List ℕ) (at named on r : ℕ) (t : Told) (q : Refusal) → Tells t (refusal_says q)
+pub refusal_put : (xs ns fs zs : List ℕ) (at named on r : ℕ) (t : Told) (q : Refusal) → told_says t ≡ refusal_says q
     → Puts (82 ∷ 69 ∷ 70 ∷ 85 ∷ 83 ∷ 69 ∷ []) xs at ns named → Puts (32 ∷ decimal t.number) ns named fs on
     → Puts (fields (take (t.count - 0) (drop 0 t.carried))) fs on zs r → Puts (refuse_line (refusal_says q).0 (refusal_says q).1) xs at zs r
-unfolding refuse_line fields
-refusal_put xs ns fs zs at named on r t q h en ef ez = rw (ez, ef, en, h.number, sub-zero t.count, h.carried) (simp with_then)
+unfolding refuse_line fields told_says
+refusal_put xs ns fs zs at named on r t q h en ef ez = rw (ez, ef, en, sub-zero t.count, ← h) (simp with_then)
 
 -- ---- the lines of events
 -- the bytes of one whose index a run can have are few

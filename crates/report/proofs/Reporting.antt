@@ -1,4 +1,5 @@
 -- Laws of the whole output, one for each way out.
+use Rattle.std.specs.Prelude.{Ok, Err}
 use mathlib.Core.Path.{◌≡◌, ◌∙◌}
 use mathlib.Core.List.{List}
 use Prim.Native.Nat.{ℕ, ◌-◌, ◌≤◌}
@@ -11,9 +12,7 @@ use Rattle.meaning.specs.Check.{check_of}
 use Rattle.meaning.specs.Program.{input_words, first_event, pass_line, refuse_line, run_from_start, printed, program_of}
 use Rattle.scr.specs.declared.Counts.{Counts}
 use Rattle.scr.specs.declared.Refusal.{Refusal}
-use Rattle.scr.specs.declared.Verdict.{Verdict}
-use Rattle.scr.specs.declared.Verdict.TheVariants as Verdicts
-use Rattle.scr.specs.Answers.{refusal_says, refused, verdict_says}
+use Rattle.scr.specs.Answers.{Verdict, refusal_says, refused, verdict_says}
 use Rattle.scr.specs.Promises.{Demand2}
 use Rattle.report.specs.Text.{Puts}
 use Rattle.report.specs.Lines.{counts_of}
@@ -22,17 +21,17 @@ use Rattle.report.specs.Whole.{printed_of}
 use Rattle.report.proofs.Putting.{with_then, puts_bytes, puts_place}
 
 -- ---- a set and its events
-pub pass_passed : (ws : List ℕ) (v : Verdict) (c : Counts) → v ≡ Verdicts.Pass c → Demand2 ws v → Passed ws
+pub pass_passed : (ws : List ℕ) (v : Verdict) (c : Counts) → v ≡ Ok c → Demand2 ws v → Passed ws
 unfolding verdict_says
 pass_passed ws v c e d = let p = (d.passes (counts_of c)).0 (rw e) in (p.0, p.1)
 
 module _ (ws es : List ℕ) (v : Verdict) (ev : verdict_says v ≡ check_of ws) where
-  pub set_passed : (xs ys zs : List ℕ) (at r : ℕ) (c : Counts) → v ≡ Verdicts.Pass c → Puts (pass_line (counts_of c)) xs 0 ys at
+  pub set_passed : (xs ys zs : List ℕ) (at r : ℕ) (c : Counts) → v ≡ Ok c → Puts (pass_line (counts_of c)) xs 0 ys at
       → Puts (run_from_start ws es (start_of ws)) ys at zs r → Puts (printed ws es (check_of ws)) xs 0 zs r
   unfolding printed verdict_says
   set_passed xs ys zs at r c e h w = let o = rw e at ev in rw (← o, w, h, with_then)
 
-  pub set_refused : (xs ys : List ℕ) (r : ℕ) (q : Refusal) → v ≡ Verdicts.Refused q → Puts (refuse_line (refusal_says q).0 (refusal_says q).1) xs 0 ys r
+  pub set_refused : (xs ys : List ℕ) (r : ℕ) (q : Refusal) → v ≡ Err q → Puts (refuse_line (refusal_says q).0 (refusal_says q).1) xs 0 ys r
       → Puts (printed ws es (check_of ws)) xs 0 ys r
   unfolding printed verdict_says refused
   set_refused xs ys r q e h = let o = rw e at ev in rw (← o, h)

@@ -1,4 +1,5 @@
 -- Laws of the lines of a run, one for each way out.
+use Rattle.std.specs.Prelude.{Ok, Err}
 use mathlib.Core.Path.{◌≡◌, refl, ap, ◌∙◌}
 use mathlib.Core.List.{List}
 use Prim.Native.Nat.{ℕ}
@@ -11,9 +12,7 @@ use Rattle.meaning.specs.Demand3.{Demand3}
 use Rattle.meaning.specs.Program.{refuse_line, event_lines, run_from_start}
 use Rattle.scr.specs.declared.Refusal.{Refusal}
 use Rattle.scr.specs.declared.Refusal.TheVariants as R
-use Rattle.scr.specs.declared.Answer.{Answer}
-use Rattle.scr.specs.declared.Answer.TheVariants as A
-use Rattle.scr.specs.Answers.{refusal_says, refused, answer_says}
+use Rattle.scr.specs.Answers.{Answer, refusal_says, refused, answer_says}
 use Rattle.report.specs.Text.{buffer, ◌with◌, Puts}
 use Rattle.report.specs.Runs.{Passed, done_before, ran_lines}
 use Rattle.report.proofs.Putting.{with_none, with_then}
@@ -48,18 +47,18 @@ done_none (R.Order i) h = refl
 
 -- ---- the lines, by the answer
 module _ (es tr xs ys part : List ℕ) (at : ℕ) (a : Answer) where
-  pub ran_state : (r s : ℕ) → a ≡ A.State s → part ≡ take (length es) tr → Puts (event_lines 0 es part) xs at ys r → Puts (ran_lines es tr (answer_says a)) xs at ys r
+  pub ran_state : (r s : ℕ) → a ≡ Ok s → part ≡ take (length es) tr → Puts (event_lines 0 es part) xs at ys r → Puts (ran_lines es tr (answer_says a)) xs at ys r
   unfolding ran_lines answer_says
   ran_state r s e ep h = rw (e, ← ep) h
 
-  pub ran_refused : (zs : List ℕ) (on r k : ℕ) (q : Refusal) → a ≡ A.Refused q → k ≡ done_before (refusal_says q).0 (refusal_says q).1 → part ≡ take k tr
+  pub ran_refused : (zs : List ℕ) (on r k : ℕ) (q : Refusal) → a ≡ Err q → k ≡ done_before (refusal_says q).0 (refusal_says q).1 → part ≡ take k tr
       → Puts (event_lines 0 es part) xs at ys on → Puts (refuse_line (refusal_says q).0 (refusal_says q).1) ys on zs r → Puts (ran_lines es tr (answer_says a)) xs at zs r
   unfolding ran_lines answer_says refused
   ran_refused zs on r k q e ek ep h w = rw (e, ← ek, ← ep, w, h, with_then)
 
 -- ---- the run from the initial state
 module _ (ws es : List ℕ) (passed : Passed ws) (i : Answer) (ei : answer_says i ≡ start_of ws) where
-  pub run_put : (tr xs ys : List ℕ) (at r s : ℕ) (a : Answer) → i ≡ A.State s → answer_says a ≡ (run_of ws s es (replicate Max.max_events 0) 0).answer
+  pub run_put : (tr xs ys : List ℕ) (at r s : ℕ) (a : Answer) → i ≡ Ok s → answer_says a ≡ (run_of ws s es (replicate Max.max_events 0) 0).answer
       → tr ≡ (run_of ws s es (replicate Max.max_events 0) 0).lent → Demand3 ws s es (replicate Max.max_events 0) 0 (answer_says a) tr
       → Puts (ran_lines es tr (answer_says a)) xs at ys r → Puts (run_from_start ws es (start_of ws)) xs at ys r
   unfolding run_from_start answer_says
@@ -70,6 +69,6 @@ module _ (ws es : List ℕ) (passed : Passed ws) (i : Answer) (ei : answer_says 
       (ran_is ws passed.0 passed.1 s es (start_is ws passed.0 passed.1 s o) (replicate Max.max_events 0) tr (answer_says a) (length-replicate Max.max_events z) ea et (d passed.0 passed.1)))
 
   -- a set that passes has an initial state
-  pub start_put : (xs : List ℕ) (at : ℕ) (q : Refusal) → i ≡ A.Refused q → Puts (run_from_start ws es (start_of ws)) xs at xs at
+  pub start_put : (xs : List ℕ) (at : ℕ) (q : Refusal) → i ≡ Err q → Puts (run_from_start ws es (start_of ws)) xs at xs at
   unfolding run_from_start answer_says refused
   start_put xs at q e = let o = rw e at ei in rw (← o, with_none)

@@ -18,7 +18,6 @@ ghost use Rattle.report.specs.Whole.{printed_of};
 use crate::decimal::{MAX_DIGITS, SMALL_DIGITS, STATE_DIGITS};
 use crate::lines::{put_pass, put_refusal};
 use crate::runs::put_run;
-use scr::Verdict;
 use word::MAX_EVENTS;
 
 // The words of the input that are looked at, and their bytes.
@@ -45,11 +44,11 @@ fn put_set(out: &mut [u8], set: &[u32], events: &[u32]) -> usize
 {
     let verdict = scr::check(set);
     match verdict {
-        Verdict::Pass(c) => {
+        Ok(c) => {
             let at = put_pass(out, 0, c);
             put_run(out, at, set, events)
         }
-        Verdict::Refused(q) => put_refusal(out, 0, q),
+        Err(q) => put_refusal(out, 0, q),
     }
 }
 

@@ -20,11 +20,8 @@ fn put_name(out: &mut [u8], at: usize, name: &[u8]) -> usize
     ensures puts { Puts name.now out.old at out.new result }
     ensures value { result ≡ at + length name.now }
 {
-    let mut on = at;
-    for i in 0..name.len() {
-        on = put(out, on, name[i]);
-    }
-    on
+    out[at..at + name.len()].copy_from_slice(name);
+    at + name.len()
 }
 
 // A blank, and the number.
@@ -44,8 +41,8 @@ fn put_fields(out: &mut [u8], at: usize, numbers: &[u64]) -> usize
     ensures upper_bound { result ≤ at + (length numbers.now * Room.field + 1) }
 {
     let mut on = at;
-    for i in 0..numbers.len() {
-        on = put_field(out, on, numbers[i]);
+    for n in numbers {
+        on = put_field(out, on, *n);
     }
     put(out, on, b'\n')
 }
@@ -95,8 +92,8 @@ pub fn put_events(out: &mut [u8], at: usize, events: &[u32], states: &[u32]) -> 
     ensures short { length states.now ≤ Max.max_events → result ≤ at + length states.now * Room.short_event }
 {
     let mut on = at;
-    for i in 0..states.len() {
-        on = put_event(out, on, events, i, states[i]);
+    for (i, s) in states.iter().enumerate() {
+        on = put_event(out, on, events, i, *s);
     }
     on
 }

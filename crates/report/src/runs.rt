@@ -10,7 +10,7 @@ ghost use Rattle.report.specs.Runs.{Passed, done_before, ran_lines};
 
 use crate::lines::{put_events, put_refusal};
 use crate::parts::front;
-use scr::{Answer, Refusal};
+use scr::Refusal;
 use word::MAX_EVENTS;
 
 // How many events were done before a refusal, in a run of a set that passes: there only an event word that is not enabled (16) ends a run
@@ -25,14 +25,20 @@ fn done_before(q: Refusal) -> usize
 }
 
 // The lines of a run of a set that passes, by its answer and by the states that it wrote.
-fn put_ran(out: &mut [u8], at: usize, events: &[u32], states: &[u32], answer: Answer) -> usize
+fn put_ran(
+    out: &mut [u8],
+    at: usize,
+    events: &[u32],
+    states: &[u32],
+    answer: Result<u32, Refusal>,
+) -> usize
     requires { (at + length states.now * Room.short_event + Room.line ≤ length out.old) × (length states.now ≤ Max.max_events) }
     ensures puts { Puts (ran_lines events.now states.now (answer_says answer)) out.old at out.new result }
     ensures upper_bound { result ≤ at + length states.now * Room.short_event + Room.line }
 {
     match answer {
-        Answer::State(_) => put_events(out, at, events, front(states, events.len())),
-        Answer::Refused(q) => {
+        Ok(_) => put_events(out, at, events, front(states, events.len())),
+        Err(q) => {
             let on = put_events(out, at, events, front(states, done_before(q)));
             put_refusal(out, on, q)
         }
@@ -47,12 +53,12 @@ pub fn put_run(out: &mut [u8], at: usize, set: &[u32], events: &[u32]) -> usize
 {
     let initial = scr::start(set);
     match initial {
-        Answer::State(s) => {
+        Ok(s) => {
             // A run writes one state an event.
             let mut states = [0u32; MAX_EVENTS];
             let answer = scr::run(set, s, events, &mut states, 0);
             put_ran(out, at, events, &states, answer)
         }
-        Answer::Refused(_) => at,
+        Err(_) => at,
     }
 }

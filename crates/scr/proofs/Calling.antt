@@ -1,4 +1,5 @@
 -- Laws of the calls by the index of a set, one for each way out.
+use Rattle.std.specs.Prelude.{Ok, Err}
 use mathlib.Core.Path.{◌≡◌, sym, ap, ◌∙◌}
 use mathlib.Core.Bool.{true, false}
 use mathlib.Core.List.{List, [], ◌∷◌}
@@ -26,12 +27,9 @@ use Rattle.simulator.proofs.Laws.{said}
 use Rattle.simulator.proofs.Means.{values_means, step_means}
 use Rattle.scr.specs.declared.Refusal.{Refusal}
 use Rattle.scr.specs.declared.Refusal.TheVariants as R
-use Rattle.scr.specs.declared.Answer.{Answer}
-use Rattle.scr.specs.declared.Answer.TheVariants as A
-use Rattle.scr.specs.declared.Count.TheVariants as C
 use Rattle.scr.specs.declared.opening.Index.{Index}
 use Rattle.scr.specs.declared.opening.Reading.TheVariants as Readings
-use Rattle.scr.specs.Answers.{refusal_says, refused, answer_says, count_says, count_of}
+use Rattle.scr.specs.Answers.{Answer, refusal_says, refused, answer_says, count_of}
 use Rattle.scr.specs.Opened.{IndexOf, ReadingAs, OpenedAs, is_ok, reads_well}
 use Rattle.scr.proofs.Refusing.{refused_says}
 use Rattle.scr.proofs.Indexing.{lent_order, well, few, order_lent, typed_state, no_state}
@@ -48,7 +46,7 @@ module _ (ws : List ℕ) (o : Index) (h : OpenedAs ws o) where
 
 module _ (ws : List ℕ) (x : Index) (h : IndexOf ws x) where
   -- ---- start
-  pub start_state : (t : ℕ) → t ≡ initial_number ws x.places x.weights x.variables % 4294967296 → answer_says (A.State t) ≡ start_of ws
+  pub start_state : (t : ℕ) → t ≡ initial_number ws x.places x.weights x.variables % 4294967296 → answer_says (Ok t) ≡ start_of ws
   unfolding answer_says start_of
   start_state t e =
       let l = initial_below h.set (well h).sizes (well h).initials in
@@ -62,7 +60,7 @@ module _ (ws : List ℕ) (x : Index) (h : IndexOf ws x) where
 
   -- ---- step
   module _ (s w : ℕ) where
-    pub step_no_state : x.states ≤ s → answer_says (A.Refused (R.NoState s)) ≡ step_of ws s w
+    pub step_no_state : x.states ≤ s → answer_says (Err (R.NoState s)) ≡ step_of ws s w
     unfolding answer_says refused refusal_says step_of
     step_no_state l = rw (h.read.reads, le-ltb s _ (no_state h s l))
 
@@ -94,8 +92,8 @@ module _ (ws : List ℕ) (x : Index) (h : IndexOf ws x) where
               h.read.typed.weights_are s (input_of 0),
         )
 
-    pub count_room : room < x.variables → count_says (C.Refused (R.Room x.variables)) ≡ count_of (values_of ws s room)
-    unfolding count_says refused refusal_says count_of
+    pub count_room : room < x.variables → answer_says (Err (R.Room x.variables)) ≡ count_of (values_of ws s room)
+    unfolding answer_says refused refusal_says count_of
     count_room l = rw (values_said, lt-leb x.variables room l)
 
     pub kept_room : (out : List ℕ) → room < x.variables → out ≡ lent_values (values_of ws s room) out
@@ -103,8 +101,8 @@ module _ (ws : List ℕ) (x : Index) (h : IndexOf ws x) where
     kept_room out l = rw (values_said, lt-leb x.variables room l)
 
     module _ (l : x.variables ≤ room) where
-      pub count_no_state : x.states ≤ s → count_says (C.Refused (R.NoState s)) ≡ count_of (values_of ws s room)
-      unfolding count_says refused refusal_says count_of
+      pub count_no_state : x.states ≤ s → answer_says (Err (R.NoState s)) ≡ count_of (values_of ws s room)
+      unfolding answer_says refused refusal_says count_of
       count_no_state k = rw (values_said, le-leb x.variables room l, le-ltb s x.states k)
 
       pub kept_no_state : (out : List ℕ) → x.states ≤ s → out ≡ lent_values (values_of ws s room) out
@@ -122,27 +120,27 @@ module _ (ws : List ℕ) (x : Index) (h : IndexOf ws x) where
 
         -- a refusal writes nothing
         count_refused : (q : Refusal) (j : ℕ) (xs : List ℕ) → values_of ws s room ≡ refuse j xs → refusal_says q ≡ (j, xs)
-            → count_says (C.Refused q) ≡ count_of (values_of ws s room)
-        unfolding count_says count_of
+            → answer_says (Err q) ≡ count_of (values_of ws s room)
+        unfolding answer_says count_of
         count_refused q j xs e eq = rw e (refused_says q j xs eq)
 
         module _ (q : Refusal) where
-          pub gap_count : (v : ℕ) → r ≡ SV.Gap v → refusal_says q ≡ (10, 0 ∷ s ∷ v ∷ []) → count_says (C.Refused q) ≡ count_of (values_of ws s room)
+          pub gap_count : (v : ℕ) → r ≡ SV.Gap v → refusal_says q ≡ (10, 0 ∷ s ∷ v ∷ []) → answer_says (Err q) ≡ count_of (values_of ws s room)
           unfolding settled_says
           gap_count v e eq = count_refused q 10 (0 ∷ s ∷ v ∷ []) (examined_says ∙ rw e) eq
 
           pub overlap_count : (v i j : ℕ) → r ≡ SV.Overlap v i j → refusal_says q ≡ (11, 0 ∷ s ∷ v ∷ i ∷ j ∷ [])
-              → count_says (C.Refused q) ≡ count_of (values_of ws s room)
+              → answer_says (Err q) ≡ count_of (values_of ws s room)
           unfolding settled_says
           overlap_count v i j e eq = count_refused q 11 (0 ∷ s ∷ v ∷ i ∷ j ∷ []) (examined_says ∙ rw e) eq
 
           pub step_count : (v i j : ℕ) → r ≡ SV.StepOverlap v i j
-              → refusal_says q ≡ (12, s ∷ (input_of 0).variable ∷ (input_of 0).value ∷ v ∷ i ∷ j ∷ []) → count_says (C.Refused q) ≡ count_of (values_of ws s room)
+              → refusal_says q ≡ (12, s ∷ (input_of 0).variable ∷ (input_of 0).value ∷ v ∷ i ∷ j ∷ []) → answer_says (Err q) ≡ count_of (values_of ws s room)
           unfolding settled_says
           step_count v i j e eq = count_refused q 12 (s ∷ (input_of 0).variable ∷ (input_of 0).value ∷ v ∷ i ∷ j ∷ []) (examined_says ∙ rw e) eq
 
-        pub done_count : r ≡ SV.Done → length own ≡ m → count_says (C.Written x.variables) ≡ count_of (values_of ws s room)
-        unfolding settled_says count_says count_of
+        pub done_count : r ≡ SV.Done → length own ≡ m → answer_says (Ok x.variables) ≡ count_of (values_of ws s room)
+        unfolding settled_says answer_says count_of
         done_count e long = rw (examined_says, e) (ap ok (sym (long ∙ em)))
 
         module _ (out : List ℕ) where

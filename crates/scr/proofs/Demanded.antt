@@ -19,10 +19,7 @@ use Rattle.theory.specs.CallsExactly.{start_answers, values_exactly}
 use Rattle.theory.specs.StepExactly.{step_exactly}
 use Rattle.theory.specs.RunExactly.{demand_3_holds}
 use Rattle.theory.specs.Demand1Holds.{demand_1}
-use Rattle.scr.specs.declared.Answer.{Answer}
-use Rattle.scr.specs.declared.Verdict.{Verdict}
-use Rattle.scr.specs.declared.Count.{Count}
-use Rattle.scr.specs.Answers.{answer_says, verdict_says, count_says, count_of}
+use Rattle.scr.specs.Answers.{Answer, Verdict, answer_says, verdict_says, count_of}
 use Rattle.scr.specs.Promises.{Demand2, StepsExactly, StartsExactly, ValuesExactly}
 
 -- ---- demand 1
@@ -61,8 +58,8 @@ counted (refuse k ys) numbers R d = record {
   numbered = d.numbered;
 }
 
-pub values_demand : (ws : List ℕ) (s : ℕ) (lent : List ℕ) (r : Count) → count_says r ≡ count_of (values_of ws s (length lent))
-    → AnswersOrRefuses (count_says r) values_numbers (ValuesRefused ws s (length lent))
+pub values_demand : (ws : List ℕ) (s : ℕ) (lent : List ℕ) (r : Answer) → answer_says r ≡ count_of (values_of ws s (length lent))
+    → AnswersOrRefuses (answer_says r) values_numbers (ValuesRefused ws s (length lent))
 values_demand ws s lent r e = rw e (counted (values_of ws s (length lent)) values_numbers (ValuesRefused ws s (length lent)) (demand_1.values ws s lent))
 
 pub rows_demand : (ws : List ℕ) (v : ℕ) (part : List ℕ) → part ≡ rows_of ws v → RowsAnswers ws v part
@@ -98,7 +95,7 @@ unfolding count_of lent_values
 counted_refused (ok a) lent n xs e = absurd (ok_not_refuse e)
 counted_refused (refuse m ys) lent n xs e = refl
 
-pub values_shown : (ws : List ℕ) (s : ℕ) (lent after : List ℕ) (r : Count) → count_says r ≡ count_of (values_of ws s (length lent))
+pub values_shown : (ws : List ℕ) (s : ℕ) (lent after : List ℕ) (r : Answer) → answer_says r ≡ count_of (values_of ws s (length lent))
     → after ≡ lent_values (values_of ws s (length lent)) lent → ValuesExactly ws s lent r after
 unfolding count_of lent_values
 values_shown ws s lent after r e el = record {

@@ -1,4 +1,5 @@
 -- Laws of the entries, one for each way out.
+use Rattle.std.specs.Prelude.{Err}
 use mathlib.Core.Path.{◌≡◌, refl, sym, ap, ◌∙◌, subst}
 use mathlib.Core.Bool.{Bool, true, false, not}
 use mathlib.Core.List.{List, []}
@@ -17,13 +18,10 @@ use Rattle.meaning.specs.Check.{check_of}
 use Rattle.part.specs.Part.{start_at, end_at}
 use Rattle.part.proofs.Laws.{part_is, part_none}
 use Rattle.scr.specs.declared.Refusal.{Refusal}
-use Rattle.scr.specs.declared.Answer.TheVariants as A
-use Rattle.scr.specs.declared.Verdict.TheVariants as Verdicts
-use Rattle.scr.specs.declared.Count.TheVariants as C
 use Rattle.scr.specs.declared.opening.Index.{Index}
 use Rattle.scr.specs.declared.opening.Reading.{Reading}
 use Rattle.scr.specs.declared.opening.Reading.TheVariants as Readings
-use Rattle.scr.specs.Answers.{refused, answer_says, verdict_says, count_says, count_of}
+use Rattle.scr.specs.Answers.{refused, answer_says, verdict_says, answer_says, count_of}
 use Rattle.scr.specs.Opened.{IndexOf, ReadingAs, OpenedAs, is_ok, reads_well}
 
 -- ---- by what the entry begins with
@@ -42,15 +40,15 @@ module _ (ws : List ℕ) (o : Index) (h : OpenedAs ws o) where
     unfolding refused
     refused_first f = rw unread
 
-    pub start_refused : answer_says (A.Refused q) ≡ start_of ws
+    pub start_refused : answer_says (Err q) ≡ start_of ws
     unfolding answer_says start_of
     start_refused = refused_first _
 
-    pub check_refused : verdict_says (Verdicts.Refused q) ≡ check_of ws
+    pub check_refused : verdict_says (Err q) ≡ check_of ws
     unfolding verdict_says check_of
     check_refused = refused_first _
 
-    pub step_refused : (s w : ℕ) → answer_says (A.Refused q) ≡ step_of ws s w
+    pub step_refused : (s w : ℕ) → answer_says (Err q) ≡ step_of ws s w
     unfolding answer_says step_of
     step_refused s w = refused_first _
 
@@ -59,7 +57,7 @@ module _ (ws : List ℕ) (o : Index) (h : OpenedAs ws o) where
       unfolding ran_of run_ready refused
       run_first = rw (unread, ran_of)
 
-      pub run_refused : answer_says (A.Refused q) ≡ (run_of ws s es lent place).answer
+      pub run_refused : answer_says (Err q) ≡ (run_of ws s es lent place).answer
       unfolding answer_says run_of
       run_refused = rw run_first
 
@@ -72,8 +70,8 @@ module _ (ws : List ℕ) (o : Index) (h : OpenedAs ws o) where
       unfolding values_of
       values_first = refused_first _
 
-      pub values_refused : count_says (C.Refused q) ≡ count_of (values_of ws s room)
-      unfolding count_says count_of refused
+      pub values_refused : answer_says (Err q) ≡ count_of (values_of ws s room)
+      unfolding answer_says count_of refused
       values_refused = ap count_of values_first
 
       pub kept_refused : (out : List ℕ) → out ≡ lent_values (values_of ws s room) out

@@ -1,4 +1,5 @@
 -- Laws of a run of a set that reads, two for each way out: the answer, and the lent list.
+use Rattle.std.specs.Prelude.{Ok, Err}
 use mathlib.Core.Path.{◌≡◌, refl, ◌∙◌}
 use mathlib.Core.List.{List, [], ◌∷◌, ◌++◌, append-nil}
 use Prim.Native.Nat.{ℕ, suc, ◌+◌, ◌-◌, ◌≤◌, ◌<◌}
@@ -19,9 +20,7 @@ use Rattle.simulator.specs.StepIndex.{stepped_says}
 use Rattle.simulator.specs.RunIndex.{ended_says, run_index}
 use Rattle.simulator.proofs.Means.{run_means}
 use Rattle.scr.specs.declared.Refusal.TheVariants as R
-use Rattle.scr.specs.declared.Answer.{Answer}
-use Rattle.scr.specs.declared.Answer.TheVariants as A
-use Rattle.scr.specs.Answers.{refusal_says, refused, answer_says}
+use Rattle.scr.specs.Answers.{Answer, refusal_says, refused, answer_says}
 use Rattle.scr.specs.declared.opening.Index.{Index}
 use Rattle.scr.specs.Opened.{IndexOf, run_in}
 use Rattle.scr.proofs.Indexing.{lent_order, order_front, well, few, typed_state, no_state}
@@ -36,7 +35,7 @@ module _ (ws : List ℕ) (x : Index) (s : ℕ) (es : List ℕ) where
   run_front = rw (order_front x)
 
   module _ (r : Ended) (er : ended_says r ≡ (run_index ws x.places x.weights (lent_order x) x.variables 0 s es).last) where
-    pub performed_last : (t : ℕ) → r ≡ E.Last t → answer_says (A.State t) ≡ (run_in ws x s es).last
+    pub performed_last : (t : ℕ) → r ≡ E.Last t → answer_says (Ok t) ≡ (run_in ws x s es).last
     unfolding ended_says answer_says
     performed_last t e = (rw e at er) ∙ rw run_front
 
@@ -87,7 +86,7 @@ module _ (ws : List ℕ) (x : Index) (h : IndexOf ws x) (s : ℕ) (es lent : Lis
       )
 
   module _ (l : Max.max_events < length es) where
-    pub many_answer : answer_says (A.Refused (R.Room (Max.max_events + 1))) ≡ (run_of ws s es lent place).answer
+    pub many_answer : answer_says (Err (R.Room (Max.max_events + 1))) ≡ (run_of ws s es lent place).answer
     unfolding answer_says refused refusal_says
     many_answer = rw (stopped 17 _ (many l))
 
@@ -99,7 +98,7 @@ module _ (ws : List ℕ) (x : Index) (h : IndexOf ws x) (s : ℕ) (es lent : Lis
       abbrev Short : run_ready ws s (length es) room ≡ refuse 17 (length es ∷ [])
       Short = short l (rw (← ef) k)
 
-      pub short_answer : answer_says (A.Refused (R.Room (length es))) ≡ (run_of ws s es lent place).answer
+      pub short_answer : answer_says (Err (R.Room (length es))) ≡ (run_of ws s es lent place).answer
       unfolding answer_says refused refusal_says
       short_answer = rw (stopped 17 _ Short)
 
@@ -111,7 +110,7 @@ module _ (ws : List ℕ) (x : Index) (h : IndexOf ws x) (s : ℕ) (es lent : Lis
       enough = rw (← ef) k
 
       module _ (c : x.states ≤ s) where
-        pub state_answer : answer_says (A.Refused (R.NoState s)) ≡ (run_of ws s es lent place).answer
+        pub state_answer : answer_says (Err (R.NoState s)) ≡ (run_of ws s es lent place).answer
         unfolding answer_says refused refusal_says
         state_answer = rw (stopped 15 _ (untyped l enough c))
 
@@ -134,7 +133,7 @@ module _ (ws : List ℕ) (x : Index) (s : ℕ) (es lent : List ℕ) (place : ℕ
   none : es ≡ []
   none = none_left es (let z : length es ≤ 0 = omega arith in z)
 
-  pub past_answer : answer_says (A.State s) ≡ (run_in ws x s es).last
+  pub past_answer : answer_says (Ok s) ≡ (run_in ws x s es).last
   unfolding answer_says run_in run_index
   past_answer = rw none
 

@@ -1,4 +1,5 @@
 -- Laws of the functions that make refusals, one for each way out.
+use Rattle.std.specs.Prelude.{Ok, Err}
 use mathlib.Core.Path.{◌≡◌}
 use mathlib.Core.Logic.{inl, inr}
 use mathlib.Core.Bool.{true}
@@ -14,15 +15,16 @@ use Rattle.simulator.specs.declared.Stepped as S
 use Rattle.simulator.specs.declared.Stepped.TheVariants as SV
 use Rattle.simulator.specs.StepIndex.{stepped_says}
 use Rattle.scr.specs.declared.Refusal.{Refusal}
+use Rattle.scr.specs.declared.told.Told.{Told}
+use Rattle.scr.specs.Telling.{told_says}
+use lib.ListN.{take}
 use Rattle.scr.specs.declared.Refusal.TheVariants as R
-use Rattle.scr.specs.declared.Answer.TheVariants as A
-use Rattle.scr.specs.declared.telling.Told.{Told}
 use Rattle.scr.specs.Answers.{refusal_says, refused, answer_says}
-use Rattle.scr.specs.Telling.{Tells}
 
 -- ---- a refusal as numbers, its case being known
-pub told_case : (t : Told) (q q' : Refusal) → q ≡ q' → Tells t (refusal_says q') → Tells t (refusal_says q)
-told_case t q q' e h = rw e h
+pub told_case : (t : Told) (q q' : Refusal) (n : ℕ) (xs : List ℕ) → q ≡ q' → t.number ≡ n → take t.count t.carried ≡ xs → (n, xs) ≡ refusal_says q' → told_says t ≡ refusal_says q
+unfolding told_says
+told_case t q q' n xs e en ex h = rw (e, en, ex) h
 
 -- ---- of reading, before the dependency order
 module _ (k x : ℕ) where
@@ -79,25 +81,25 @@ unfolding refused
 refused_says r n xs e = rw e
 
 module _ (s w : ℕ) (r : S.Stepped) where
-  pub stepped_state : (t : ℕ) → r ≡ SV.State t → answer_says (A.State t) ≡ stepped_says s (input_of w) r
+  pub stepped_state : (t : ℕ) → r ≡ SV.State t → answer_says (Ok t) ≡ stepped_says s (input_of w) r
   unfolding answer_says stepped_says
   stepped_state t e = rw e
 
-  pub stepped_not : (i : ℕ) → r ≡ SV.NotEnabled i → answer_says (A.Refused (R.NotEnabled i)) ≡ stepped_says s (input_of w) r
+  pub stepped_not : (i : ℕ) → r ≡ SV.NotEnabled i → answer_says (Err (R.NotEnabled i)) ≡ stepped_says s (input_of w) r
   unfolding answer_says stepped_says refused refusal_says
   stepped_not i e = rw e
 
   pub stepped_gap : (side v : ℕ) (q : Refusal) → r ≡ SV.Gap side v → refusal_says q ≡ (10, side ∷ s ∷ v ∷ [])
-      → answer_says (A.Refused q) ≡ stepped_says s (input_of w) r
+      → answer_says (Err q) ≡ stepped_says s (input_of w) r
   unfolding answer_says stepped_says
   stepped_gap side v q e h = rw e (refused_says q 10 (side ∷ s ∷ v ∷ []) h)
 
   pub stepped_overlap : (side v i j : ℕ) (q : Refusal) → r ≡ SV.Overlap side v i j → refusal_says q ≡ (11, side ∷ s ∷ v ∷ i ∷ j ∷ [])
-      → answer_says (A.Refused q) ≡ stepped_says s (input_of w) r
+      → answer_says (Err q) ≡ stepped_says s (input_of w) r
   unfolding answer_says stepped_says
   stepped_overlap side v i j q e h = rw e (refused_says q 11 (side ∷ s ∷ v ∷ i ∷ j ∷ []) h)
 
   pub stepped_step : (v i j : ℕ) (q : Refusal) → r ≡ SV.StepOverlap v i j
-      → refusal_says q ≡ (12, s ∷ (input_of w).variable ∷ (input_of w).value ∷ v ∷ i ∷ j ∷ []) → answer_says (A.Refused q) ≡ stepped_says s (input_of w) r
+      → refusal_says q ≡ (12, s ∷ (input_of w).variable ∷ (input_of w).value ∷ v ∷ i ∷ j ∷ []) → answer_says (Err q) ≡ stepped_says s (input_of w) r
   unfolding answer_says stepped_says
   stepped_step v i j q e h = rw e (refused_says q 12 (s ∷ (input_of w).variable ∷ (input_of w).value ∷ v ∷ i ∷ j ∷ []) h)

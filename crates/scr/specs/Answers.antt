@@ -1,15 +1,10 @@
 -- The documents' number and list of values for each case of the answers. Every promise of an entry is stated through these.
-use Rattle.std.specs.Prelude.{ℕ, List, [], ◌∷◌, length}
+use Rattle.std.specs.Prelude.{ℕ, List, [], ◌∷◌, length, Result, Ok, Err}
 use Rattle.meaning.specs.Answers.{Outcome, ok, refuse}
 use Rattle.scr.specs.declared.Refusal.{Refusal}
 use Rattle.scr.specs.declared.Refusal.TheVariants as R
-use Rattle.scr.specs.declared.Answer.{Answer}
-use Rattle.scr.specs.declared.Answer.TheVariants as A
-use Rattle.meaning.specs.Check.{Counts}
-use Rattle.scr.specs.declared.Verdict.{Verdict}
-use Rattle.scr.specs.declared.Verdict.TheVariants as Verdicts
-use Rattle.scr.specs.declared.Count.{Count}
-use Rattle.scr.specs.declared.Count.TheVariants as C
+use Rattle.meaning.specs.Check as Meant
+use Rattle.scr.specs.declared.Counts.{Counts}
 
 -- the number of a refusal, and what it carries
 unfoldable pub refusal_says : Refusal → ℕ × List ℕ
@@ -37,17 +32,21 @@ refusal_says (R.Order i) = (21, i ∷ [])
 unfoldable pub refused : {A : Type 0} → Refusal → Outcome A
 refused r = refuse (refusal_says r).0 (refusal_says r).1
 
+-- a state, or the number of values written; or the refusal
+abbrev pub Answer : Type 0
+Answer = Result ℕ Refusal
+
 unfoldable pub answer_says : Answer → Outcome ℕ
-answer_says (A.State s) = ok s
-answer_says (A.Refused r) = refused r
+answer_says (Ok n) = ok n
+answer_says (Err r) = refused r
 
-unfoldable pub verdict_says : Verdict → Outcome Counts
-verdict_says (Verdicts.Pass c) = ok (record { states = c.states; steps = c.steps; assertions = c.assertions })
-verdict_says (Verdicts.Refused r) = refused r
+-- a pass, or the refusal
+abbrev pub Verdict : Type 0
+Verdict = Result Counts Refusal
 
-unfoldable pub count_says : Count → Outcome ℕ
-count_says (C.Written n) = ok n
-count_says (C.Refused r) = refused r
+unfoldable pub verdict_says : Verdict → Outcome Meant.Counts
+verdict_says (Ok c) = ok (record { states = c.states; steps = c.steps; assertions = c.assertions })
+verdict_says (Err r) = refused r
 
 -- how many values were written, where none is refused
 unfoldable pub count_of : Outcome (List ℕ) → Outcome ℕ

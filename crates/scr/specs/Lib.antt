@@ -1,4 +1,5 @@
 pub mod Answers
+pub mod Carried
 pub mod Opened
 pub mod Promises
 pub mod Telling

@@ -10,10 +10,7 @@ use Rattle.meaning.specs.Check.{Counts, counts}
 use Rattle.meaning.specs.Valued.{IsInitial, OneValuation}
 use Rattle.meaning.specs.Moved.{Clean}
 use Rattle.meaning.specs.Passes.{Reads, Passes, Refused}
-use Rattle.scr.specs.declared.Answer.{Answer}
-use Rattle.scr.specs.declared.Verdict.{Verdict}
-use Rattle.scr.specs.declared.Count.{Count}
-use Rattle.scr.specs.Answers.{answer_says, verdict_says, count_says}
+use Rattle.scr.specs.Answers.{Answer, Verdict, answer_says, verdict_says}
 
 -- Demand 2, of check: "A set passes exactly if it reads, its tables have a dependency order, no condition table has a gap or an overlap at a
 -- typed state, no mode or event table an overlap at a typed step, and each assertion holds initially and is kept by every step under
@@ -40,9 +37,9 @@ StartsExactly ws r = (s : ℕ) → (answer_says r ≡ ok s) ↔ ((z : TableSet) 
 
 -- Values answers that k values are written exactly if the set reads, s is one of its typed states, there is room for a value of each
 -- of its k variables, and the state has one valuation, met without a gap or an overlap. Then that valuation is what it has written.
-pub record ValuesExactly (ws : List ℕ) (s : ℕ) (lent : List ℕ) (r : Count) (after : List ℕ) : Type 0 where
-  pub answers : (k : ℕ) → (count_says r ≡ ok k)
+pub record ValuesExactly (ws : List ℕ) (s : ℕ) (lent : List ℕ) (r : Answer) (after : List ℕ) : Type 0 where
+  pub answers : (k : ℕ) → (answer_says r ≡ ok k)
       ↔ ((z : TableSet) × (a : Values) × Reads ws z × (count z ≤ length lent) × (s < state_count z) × OneValuation z s a × (k ≡ count z))
   pub written : (z : TableSet) (a : Values) → Reads ws z → count z ≤ length lent → s < state_count z → OneValuation z s a → after ≡ sets lent 0 a
   -- a refused call has written nothing
-  pub kept : (n : ℕ) (xs : List ℕ) → count_says r ≡ refuse n xs → after ≡ lent
+  pub kept : (n : ℕ) (xs : List ℕ) → answer_says r ≡ refuse n xs → after ≡ lent

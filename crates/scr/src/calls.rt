@@ -2,11 +2,11 @@
 ghost use Rattle.std.specs.Prelude.{◌≡◌, Bool, ℕ, ◌<◌, ◌≤◌, length};
 ghost use Rattle.meaning.specs.Calls.{start_of, values_of, lent_values};
 ghost use Rattle.meaning.specs.Steps.{step_of};
-ghost use Rattle.scr.specs.Answers.{answer_says, count_says, count_of};
+ghost use Rattle.scr.specs.Answers.{answer_says, count_of};
 ghost use Rattle.scr.specs.Opened.{IndexOf, reads_well};
 
 use crate::opening::{Index, Reading, open};
-use crate::{Answer, Count, Refusal, refusals};
+use crate::{Refusal, refusals};
 use simulator::{Settled, step_from, values_in, write_front};
 use state::initial_state;
 use word::{MAX_VARIABLES, Value};
@@ -22,21 +22,21 @@ pub fn reads(words: &[u32]) -> bool
     }
 }
 
-pub fn start(words: &[u32], index: Index) -> Answer
+pub fn start(words: &[u32], index: Index) -> Result<u32, Refusal>
     requires { IndexOf words.now index }
     ensures { answer_says result ≡ start_of words.now }
 {
     let places = index.places;
     let weights = index.weights;
-    Answer::State(initial_state(words, &places, &weights, index.variables))
+    Ok(initial_state(words, &places, &weights, index.variables))
 }
 
-pub fn step(words: &[u32], index: Index, s: u32, w: u32) -> Answer
+pub fn step(words: &[u32], index: Index, s: u32, w: u32) -> Result<u32, Refusal>
     requires { IndexOf words.now index }
     ensures { answer_says result ≡ step_of words.now s w }
 {
     if index.states <= s {
-        return Answer::Refused(Refusal::NoState(s));
+        return Err(Refusal::NoState(s));
     }
     let n = index.variables;
     let places = index.places;
@@ -60,9 +60,15 @@ pub fn step(words: &[u32], index: Index, s: u32, w: u32) -> Answer
 }
 
 // The state is examined in a list of its own, so that a refusal writes nothing to the lent one.
-fn examine(words: &[u32], index: Index, s: u32, own: &mut [Value], out: &mut [Value]) -> Count
+fn examine(
+    words: &[u32],
+    index: Index,
+    s: u32,
+    own: &mut [Value],
+    out: &mut [Value],
+) -> Result<usize, Refusal>
     requires { IndexOf words.now index × (length own.old ≡ index.variables) × (index.variables ≤ length out.old) × (s < index.states) }
-    ensures result_value { count_says result ≡ count_of (values_of words.now s (length out.old)) }
+    ensures result_value { answer_says result ≡ count_of (values_of words.now s (length out.old)) }
     ensures out_after { out.new ≡ lent_values (values_of words.now s (length out.old)) out.old }
 {
     let n = index.variables;
@@ -71,27 +77,27 @@ fn examine(words: &[u32], index: Index, s: u32, own: &mut [Value], out: &mut [Va
     let order = index.order;
     let r = values_in(words, &places, &weights, &order[0..n], s, &mut own[..]);
     match r {
-        Settled::Gap(v) => Count::Refused(refusals::gap(0, s, v)),
-        Settled::Overlap(v, i, j) => Count::Refused(refusals::overlap(0, s, v, i, j)),
-        Settled::StepOverlap(v, i, j) => Count::Refused(refusals::step_overlap(s, 0, v, i, j)),
+        Settled::Gap(v) => Err(refusals::gap(0, s, v)),
+        Settled::Overlap(v, i, j) => Err(refusals::overlap(0, s, v, i, j)),
+        Settled::StepOverlap(v, i, j) => Err(refusals::step_overlap(s, 0, v, i, j)),
         Settled::Done => {
             write_front(&own[..], &mut out[..]);
-            Count::Written(n)
+            Ok(n)
         }
     }
 }
 
-pub fn values(words: &[u32], index: Index, s: u32, out: &mut [Value]) -> Count
+pub fn values(words: &[u32], index: Index, s: u32, out: &mut [Value]) -> Result<usize, Refusal>
     requires { IndexOf words.now index }
-    ensures result_value { count_says result ≡ count_of (values_of words.now s (length out.old)) }
+    ensures result_value { answer_says result ≡ count_of (values_of words.now s (length out.old)) }
     ensures out_after { out.new ≡ lent_values (values_of words.now s (length out.old)) out.old }
 {
     let n = index.variables;
     if out.len() < n {
-        return Count::Refused(Refusal::Room(n));
+        return Err(Refusal::Room(n));
     }
     if index.states <= s {
-        return Count::Refused(Refusal::NoState(s));
+        return Err(Refusal::NoState(s));
     }
     let mut own = [0 as Value; MAX_VARIABLES];
     examine(words, index, s, &mut own[0..n], &mut out[..])

@@ -8,6 +8,7 @@ mod opening; // reading the set
 mod refusals; // making refusals
 mod runs; // a run of a set that reads
 pub mod telling; // a refusal as numbers
+pub mod told; // a number with what it carries
 mod verdicts; // the verdict of a set that reads
 
 ghost use Rattle.std.specs.Prelude.{◌≡◌, ℕ, length};
@@ -19,7 +20,7 @@ ghost use Rattle.meaning.specs.Passes.{Refused};
 ghost use Rattle.meaning.specs.Demand1.{StartRefused, StepRefused, ValuesRefused, AnswersOrRefuses, RunAnswers, RowsAnswers};
 ghost use Rattle.meaning.specs.Demand3.{Demand3};
 ghost use Rattle.meaning.specs.Check.{check_of};
-ghost use Rattle.scr.specs.Answers.{answer_says, verdict_says, count_says, count_of};
+ghost use Rattle.scr.specs.Answers.{answer_says, verdict_says, count_of};
 ghost use Rattle.scr.specs.Promises.{Demand2, StartsExactly, StepsExactly, ValuesExactly};
 
 use crate::opening::{Reading, open};
@@ -102,13 +103,6 @@ pub enum Refusal {
     Order(usize),
 }
 
-// A state, or the refusal.
-#[derive(Clone, Copy)]
-pub enum Answer {
-    State(u32),
-    Refused(Refusal),
-}
-
 // What a pass carries: how many typed states, typed steps and assertions the set has.
 #[derive(Clone, Copy)]
 pub struct Counts {
@@ -117,24 +111,10 @@ pub struct Counts {
     pub assertions: usize,
 }
 
-// A pass, or the refusal.
-#[derive(Clone, Copy)]
-pub enum Verdict {
-    Pass(Counts),
-    Refused(Refusal),
-}
-
-// The number of values written, or the refusal.
-#[derive(Clone, Copy)]
-pub enum Count {
-    Written(usize),
-    Refused(Refusal),
-}
-
 // ---- entries
 
 // The initial state, which holds the initial values, or the first of refusals 1 to 9.
-pub fn start(words: &[u32]) -> Answer
+pub fn start(words: &[u32]) -> Result<u32, Refusal>
     ensures result_value { answer_says result ≡ start_of words.now }
     ensures answers_or_refuses { AnswersOrRefuses (answer_says result) start_numbers (StartRefused words.now) }
     ensures starts_exactly { StartsExactly words.now result }
@@ -142,14 +122,14 @@ pub fn start(words: &[u32]) -> Answer
     let index = open(words);
     let reading = index.reading;
     match reading {
-        Reading::Refused(q) => Answer::Refused(q),
+        Reading::Refused(q) => Err(q),
         Reading::Set => calls::start(words, index),
     }
 }
 
 // The word that a set may be loaded. Every typed state, every typed step and every assertion counts; which steps are looked at singly is the
 // filter's matter (crate filter).
-pub fn check(words: &[u32]) -> Verdict
+pub fn check(words: &[u32]) -> Result<Counts, Refusal>
     ensures result_value { verdict_says result ≡ check_of words.now }
     ensures answers_or_refuses { AnswersOrRefuses (verdict_says result) check_numbers (Refused words.now) }
     ensures demand2 { Demand2 words.now result }
@@ -157,14 +137,14 @@ pub fn check(words: &[u32]) -> Verdict
     let index = open(words);
     let reading = index.reading;
     match reading {
-        Reading::Refused(q) => Verdict::Refused(q),
+        Reading::Refused(q) => Err(q),
         Reading::Set => verdict(words, index),
     }
 }
 
 // The next state, or the refusal. It answers a state exactly if that is the one next state by the SCR rules, met without gap or overlap,
 // and the event word is enabled.
-pub fn step(words: &[u32], state: u32, event: u32) -> Answer
+pub fn step(words: &[u32], state: u32, event: u32) -> Result<u32, Refusal>
     ensures result_value { answer_says result ≡ step_of words.now state event }
     ensures answers_or_refuses { AnswersOrRefuses (answer_says result) step_numbers (StepRefused words.now state event) }
     ensures steps_exactly { StepsExactly words.now state event result }
@@ -172,14 +152,20 @@ pub fn step(words: &[u32], state: u32, event: u32) -> Answer
     let index = open(words);
     let reading = index.reading;
     match reading {
-        Reading::Refused(q) => Answer::Refused(q),
+        Reading::Refused(q) => Err(q),
         Reading::Set => calls::step(words, index, state, event),
     }
 }
 
 // The events in turn from a state on. The state after each event done is written to the lent list from the place on, and the last is given;
 // a refusal keeps what was written.
-pub fn run(words: &[u32], state: u32, events: &[u32], trace: &mut [u32], place: usize) -> Answer
+pub fn run(
+    words: &[u32],
+    state: u32,
+    events: &[u32],
+    trace: &mut [u32],
+    place: usize,
+) -> Result<u32, Refusal>
     ensures result_value { answer_says result ≡ (run_of words.now state events.now trace.old place).answer }
     ensures trace_after { trace.new ≡ (run_of words.now state events.now trace.old place).lent }
     ensures run_answers { RunAnswers words.now state events.now trace.old place (answer_says result) trace.new }
@@ -188,23 +174,23 @@ pub fn run(words: &[u32], state: u32, events: &[u32], trace: &mut [u32], place: 
     let index = open(words);
     let reading = index.reading;
     match reading {
-        Reading::Refused(q) => Answer::Refused(q),
+        Reading::Refused(q) => Err(q),
         Reading::Set => runs::run(words, index, state, events, &mut trace[..], place),
     }
 }
 
 // The values of a state, one a variable at the front of a lent list; elements beyond keep their content. They are written exactly if they are the
 // one valuation of the state, met without gap or overlap.
-pub fn values(words: &[u32], state: u32, out: &mut [Value]) -> Count
-    ensures result_value { count_says result ≡ count_of (values_of words.now state (length out.old)) }
+pub fn values(words: &[u32], state: u32, out: &mut [Value]) -> Result<usize, Refusal>
+    ensures result_value { answer_says result ≡ count_of (values_of words.now state (length out.old)) }
     ensures out_after { out.new ≡ lent_values (values_of words.now state (length out.old)) out.old }
-    ensures answers_or_refuses { AnswersOrRefuses (count_says result) values_numbers (ValuesRefused words.now state (length out.old)) }
+    ensures answers_or_refuses { AnswersOrRefuses (answer_says result) values_numbers (ValuesRefused words.now state (length out.old)) }
     ensures values_exactly { ValuesExactly words.now state out.old result out.new }
 {
     let index = open(words);
     let reading = index.reading;
     match reading {
-        Reading::Refused(q) => Count::Refused(q),
+        Reading::Refused(q) => Err(q),
         Reading::Set => calls::values(words, index, state, &mut out[..]),
     }
 }

@@ -7,7 +7,7 @@ ghost use Rattle.simulator.specs.StepIndex.{stepped_says};
 ghost use Rattle.checker.specs.Sweeps.{fault_is};
 ghost use Rattle.scr.specs.Answers.{refusal_says, answer_says};
 
-use crate::{Answer, Broken, Cycle, Gap, Input, Overlap, Refusal, StepOverlap};
+use crate::{Broken, Cycle, Gap, Input, Overlap, Refusal, StepOverlap};
 use checker::{Fault, Note};
 use simulator::Stepped;
 use word::{given, variable};
@@ -83,15 +83,15 @@ pub fn step_overlap(state: u32, w: u32, v: usize, first: usize, second: usize) -
 }
 
 // The answer of a step from a state by event word w.
-pub fn stepped(state: u32, w: u32, r: Stepped) -> Answer
+pub fn stepped(state: u32, w: u32, r: Stepped) -> Result<u32, Refusal>
     ensures { answer_says result ≡ stepped_says state (input_of w) r }
 {
     match r {
-        Stepped::State(t) => Answer::State(t),
-        Stepped::NotEnabled(i) => Answer::Refused(Refusal::NotEnabled(i)),
-        Stepped::Gap(side, v) => Answer::Refused(gap(side, state, v)),
-        Stepped::Overlap(side, v, i, j) => Answer::Refused(overlap(side, state, v, i, j)),
-        Stepped::StepOverlap(v, i, j) => Answer::Refused(step_overlap(state, w, v, i, j)),
+        Stepped::State(t) => Ok(t),
+        Stepped::NotEnabled(i) => Err(Refusal::NotEnabled(i)),
+        Stepped::Gap(side, v) => Err(gap(side, state, v)),
+        Stepped::Overlap(side, v, i, j) => Err(overlap(side, state, v, i, j)),
+        Stepped::StepOverlap(v, i, j) => Err(step_overlap(state, w, v, i, j)),
     }
 }
 

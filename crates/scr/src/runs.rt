@@ -6,7 +6,7 @@ ghost use Rattle.scr.specs.Answers.{answer_says};
 ghost use Rattle.scr.specs.Opened.{IndexOf, run_in};
 
 use crate::opening::Index;
-use crate::{Answer, Refusal, refusals};
+use crate::{Refusal, refusals};
 use simulator::run::{Ended, run_events};
 use word::{MAX_EVENTS, MAX_VARIABLES, Value};
 
@@ -18,7 +18,13 @@ fn room_from(all: usize, place: usize) -> usize
 }
 
 // The events, with room for each at the front of the lent list.
-fn perform(words: &[u32], index: Index, s: u32, events: &[u32], trace: &mut [u32]) -> Answer
+fn perform(
+    words: &[u32],
+    index: Index,
+    s: u32,
+    events: &[u32],
+    trace: &mut [u32],
+) -> Result<u32, Refusal>
     requires { IndexOf words.now index × (length events.now ≤ length trace.old) }
     ensures result_value { answer_says result ≡ (run_in words.now index s events.now).last }
     ensures trace_after { trace.new ≡ sets trace.old 0 (run_in words.now index s events.now).done }
@@ -42,7 +48,7 @@ fn perform(words: &[u32], index: Index, s: u32, events: &[u32], trace: &mut [u32
         &mut trace[..],
     );
     match r {
-        Ended::Last(t) => Answer::State(t),
+        Ended::Last(t) => Ok(t),
         Ended::Refused(t, w, why) => refusals::stepped(t, w, why),
     }
 }
@@ -55,13 +61,13 @@ fn perform_from(
     events: &[u32],
     trace: &mut [u32],
     place: usize,
-) -> Answer
+) -> Result<u32, Refusal>
     requires { IndexOf words.now index × (length events.now ≤ length trace.old - place) }
     ensures result_value { answer_says result ≡ (run_in words.now index s events.now).last }
     ensures trace_after { trace.new ≡ sets trace.old place (run_in words.now index s events.now).done }
 {
     if trace.len() <= place {
-        return Answer::State(s);
+        return Ok(s);
     }
     perform(words, index, s, events, &mut trace[place..])
 }
@@ -74,20 +80,20 @@ pub fn run(
     events: &[u32],
     trace: &mut [u32],
     place: usize,
-) -> Answer
+) -> Result<u32, Refusal>
     requires { IndexOf words.now index }
     ensures result_value { answer_says result ≡ (run_of words.now s events.now trace.old place).answer }
     ensures trace_after { trace.new ≡ (run_of words.now s events.now trace.old place).lent }
 {
     if MAX_EVENTS < events.len() {
-        return Answer::Refused(Refusal::Room(MAX_EVENTS + 1));
+        return Err(Refusal::Room(MAX_EVENTS + 1));
     }
     let room = room_from(trace.len(), place);
     if room < events.len() {
-        return Answer::Refused(Refusal::Room(events.len()));
+        return Err(Refusal::Room(events.len()));
     }
     if index.states <= s {
-        return Answer::Refused(Refusal::NoState(s));
+        return Err(Refusal::NoState(s));
     }
     perform_from(words, index, s, events, &mut trace[..], place)
 }

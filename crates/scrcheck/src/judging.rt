@@ -3,13 +3,24 @@ ghost use Rattle.scrcheck.specs.Prints.{Judges};
 
 use crate::input::read_to_end;
 use std::io::{Read, Write};
+use std::process::ExitCode;
 use std::{fmt, io};
 
-const DONE: u8 = 0;
+// How the program ends: all is done; the set is refused; there is no verdict, or not all of it; the set passes, but not all events are done. The number is
+// the exit status.
+#[derive(Clone, Copy, PartialEq, Eq)]
+pub enum Status {
+    Done = 0,
+    Refused = 1,
+    NoVerdict = 2,
+    Stopped = 3,
+}
 
-const REFUSED: u8 = 1;
-
-const STOPPED: u8 = 3;
+impl From<Status> for ExitCode {
+    fn from(status: Status) -> ExitCode {
+        ExitCode::from(status as u8)
+    }
+}
 
 // Why there is no verdict, or not all of it.
 #[derive(Drop)]
@@ -37,32 +48,25 @@ impl fmt::Display for Fault {
     }
 }
 
-// The exit status by what is printed: 0 the set passes and all events are done, 1 it is refused, 3 it passes, but not all events are done. Only PASS has a P, and only
-// REFUSE has an R.
-fn status_of(text: &[u8]) -> u8 {
+// By what is printed: only PASS has a P, and only REFUSE has an R.
+fn status_of(text: &[u8]) -> Status {
     if !text.contains(&b'P') {
-        REFUSED
+        Status::Refused
     } else if text.contains(&b'R') {
-        STOPPED
+        Status::Stopped
     } else {
-        DONE
+        Status::Done
     }
 }
 
 // The first 8,192 words are looked at. What stands beyond them is ignored, a broken word too.
-pub fn judge<R: Read, W: Write>(input: &mut R, output: &mut W) -> Result<u8, Fault>
+pub fn judge<R: Read, W: Write>(input: &mut R, output: &mut W) -> Result<Status, Fault>
     ensures { Judges result (R.remaining input.old) (W.contents output.old) (W.contents output.new) }
 {
     let mut bytes = [0u8; report::MAX_INPUT];
-    let n = match read_to_end(input, &mut bytes) {
-        Ok(n) => n,
-        Err(fault) => return Err(Fault::Input(fault)),
-    };
+    let n = read_to_end(input, &mut bytes).map_err(Fault::Input)?;
     let mut text = [0u8; report::MAX_OUTPUT];
     let end = report::report(&bytes[..n], &mut text);
-    let status = status_of(&text[..end]);
-    match output.write_all(&text[..end]) {
-        Ok(()) => Ok(status),
-        Err(fault) => Err(Fault::Output(fault)),
-    }
+    output.write_all(&text[..end]).map_err(Fault::Output)?;
+    Ok(status_of(&text[..end]))
 }

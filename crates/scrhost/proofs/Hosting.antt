@@ -1,4 +1,5 @@
 -- Laws of the host's functions, one for each way out.
+use Rattle.std.specs.Prelude.{Ok, Err}
 use mathlib.Core.Path.{◌≡◌, refl, sym, ◌∙◌}
 use mathlib.Core.List.{List, [], ◌∷◌}
 use mathlib.Core.Bool.{Bool, true, false, not, ◌&&◌}
@@ -19,34 +20,30 @@ use Rattle.meaning.specs.Steps.{step_of}
 use Rattle.meaning.specs.Host.{words_of_bytes, host_words, passed, stepped, host_check_of, host_step_of}
 use Rattle.theory.specs.Tests.{true_not_false, and_true}
 use Rattle.scr.specs.declared.Refusal.{Refusal}
-use Rattle.scr.specs.declared.Verdict.{Verdict}
-use Rattle.scr.specs.declared.Verdict.TheVariants as Verdicts
-use Rattle.scr.specs.declared.Answer.{Answer}
-use Rattle.scr.specs.declared.Answer.TheVariants as A
-use Rattle.scr.specs.declared.telling.Told.{Told}
-use Rattle.scr.specs.Answers.{refusal_says, refused, answer_says, verdict_says}
-use Rattle.scr.specs.Telling.{Tells}
+use Rattle.scr.specs.declared.told.Told.{Told}
+use Rattle.scr.specs.Answers.{Answer, Verdict, refusal_says, refused, answer_says, verdict_says}
+use Rattle.scr.specs.Telling.{told_says}
 use Rattle.scrhost.specs.Limits.{max_bytes}
 use Rattle.scrhost.proofs.Copying.{length_words}
 
 -- ---- answers as numbers
-pub check_passes : (v : Verdict) (c : _) → v ≡ Verdicts.Pass c → 0 ≡ passed (verdict_says v)
+pub check_passes : (v : Verdict) (c : _) → v ≡ Ok c → 0 ≡ passed (verdict_says v)
 unfolding passed verdict_says
 check_passes v c e = rw e
 
-pub check_refuses : (v : Verdict) (q : Refusal) (t : Told) → v ≡ Verdicts.Refused q → Tells t (refusal_says q)
+pub check_refuses : (v : Verdict) (q : Refusal) (t : Told) → v ≡ Err q → told_says t ≡ refusal_says q
     → t.number ≡ passed (verdict_says v)
-unfolding passed verdict_says refused
-check_refuses v q t e h = rw e h.number
+unfolding passed verdict_says refused told_says
+check_refuses v q t e h = rw (e, ← h)
 
-pub step_gives : (a : Answer) (s : ℕ) → a ≡ A.State s → s ≡ stepped (answer_says a)
+pub step_gives : (a : Answer) (s : ℕ) → a ≡ Ok s → s ≡ stepped (answer_says a)
 unfolding stepped answer_says
 step_gives a s e = rw e
 
-pub step_refuses : (a : Answer) (q : Refusal) (t : Told) → a ≡ A.Refused q → Tells t (refusal_says q)
+pub step_refuses : (a : Answer) (q : Refusal) (t : Told) → a ≡ Err q → told_says t ≡ refusal_says q
     → 2147483648 + t.number ≡ stepped (answer_says a)
-unfolding stepped answer_says refused
-step_refuses a q t e h = rw (e, h.number)
+unfolding stepped answer_says refused told_says
+step_refuses a q t e h = rw (e, ← h)
 
 -- ---- bytes that are no words of a set
 long_refused : (ws : List ℕ) → Max.max_words < length ws → read_set ws ≡ refuse 1 (length ws ∷ [])

@@ -4,27 +4,27 @@ ghost use Rattle.meaning.specs.Host.{passed, stepped};
 ghost use Rattle.scr.specs.Answers.{answer_says, verdict_says};
 
 use scr::telling::tell;
-use scr::{Answer, Verdict};
+use scr::{Counts, Refusal};
 
 // Added to the number of a refused step: no state has so high a number.
 pub const REFUSED: u32 = 2147483648;
 
 // 0, or the number of the refusal.
-pub fn check_number(v: Verdict) -> u32
+pub fn check_number(v: Result<Counts, Refusal>) -> u32
     ensures { result ≡ passed (verdict_says v) }
 {
     match v {
-        Verdict::Pass(_) => 0,
-        Verdict::Refused(q) => tell(q).number,
+        Ok(_) => 0,
+        Err(q) => tell(q).number,
     }
 }
 
 // The state, or 2^31 plus the number of the refusal.
-pub fn step_number(a: Answer) -> u32
+pub fn step_number(a: Result<u32, Refusal>) -> u32
     ensures { result ≡ stepped (answer_says a) }
 {
     match a {
-        Answer::State(s) => s,
-        Answer::Refused(q) => REFUSED + tell(q).number,
+        Ok(s) => s,
+        Err(q) => REFUSED + tell(q).number,
     }
 }

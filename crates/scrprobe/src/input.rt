@@ -1,59 +1,67 @@
-// The words of the input, lowest byte first. Input cut short counts as zeros.
-use crate::least;
-use word::of_bytes;
+// The words of the input: the call, the number of words of the set, the set, and what comes after it.
+use std::alloc::{AllocError, Global};
 
-fn byte_at(bytes: &[u8], at: usize) -> u8 {
-    if at < bytes.len() { bytes[at] } else { 0 }
+// The longest set and list of events that are taken: longer than any that a set or a run has.
+const MAX_TAKEN: usize = 5000;
+
+// The longest input: the call, n, a set, and for a run three numbers and its events.
+const MAX_WORDS: usize = 2 + MAX_TAKEN + 3 + MAX_TAKEN;
+
+pub const MAX_BYTES: u64 = MAX_WORDS as u64 * 4;
+
+// The number of the entry, its set, and the words behind the set.
+#[derive(Drop)]
+pub struct Input {
+    pub entry: u32,
+    set: Vec<u32>,
+    behind: Vec<u32>,
 }
 
+// Lowest byte first. Bytes that are missing count as zeros.
 fn word_of(bytes: &[u8]) -> u32 {
-    of_bytes(
-        byte_at(bytes, 0),
-        byte_at(bytes, 1),
-        byte_at(bytes, 2),
-        byte_at(bytes, 3),
-    )
+    let mut word = [0u8; 4];
+    for (to, from) in word.iter_mut().zip(bytes) {
+        *to = *from;
+    }
+    u32::from_le_bytes(word)
 }
 
-fn word_in(bytes: &[u8], i: usize) -> u32 {
-    if bytes.len() / 4 < i {
-        return 0;
+impl Input {
+    pub fn new(alloc: Global, bytes: &[u8]) -> Result<Input, AllocError> {
+        let mut words = Vec::new(alloc);
+        for word in bytes.chunks(4) {
+            words.push(word_of(word))?;
+        }
+        let n = words.get(1).copied().unwrap_or(0) as usize;
+        let n = n.min(MAX_TAKEN);
+        let mut set = Vec::new(alloc);
+        for word in words.iter().skip(2).take(n) {
+            set.push(*word)?;
+        }
+        set.resize(n, 0)?;
+        let mut behind = Vec::new(alloc);
+        for word in words.iter().skip(2 + n) {
+            behind.push(*word)?;
+        }
+        Ok(Input {
+            entry: words.first().copied().unwrap_or(0),
+            set,
+            behind,
+        })
     }
-    let at = i * 4;
-    word_of(&bytes[at..])
-}
 
-pub fn fill(bytes: &[u8], words: &mut [u32]) {
-    for i in 0..words.len() {
-        words[i] = word_in(bytes, i);
+    pub fn set(&self) -> &[u32] {
+        &self.set
     }
-}
 
-// The number of words of so many bytes, the last one perhaps cut short.
-pub fn word_count(bytes: usize) -> usize {
-    if bytes % 4 == 0 {
-        bytes / 4
-    } else {
-        bytes / 4 + 1
+    // The word i behind the set.
+    pub fn argument(&self, i: usize) -> u32 {
+        self.behind.get(i).copied().unwrap_or(0)
     }
-}
 
-// The n words from a place on; none if there are fewer.
-pub fn words_from(words: &[u32], at: usize, n: usize) -> &[u32] {
-    if words.len() < at {
-        return &words[0..0];
+    // The words behind the set from the word i on, at most so many as a run is given.
+    pub fn events(&self, i: usize) -> &[u32] {
+        let events = &self.behind[i.min(self.behind.len())..];
+        &events[..events.len().min(MAX_TAKEN)]
     }
-    let rest = &words[at..];
-    if rest.len() < n {
-        return &words[0..0];
-    }
-    &rest[0..n]
-}
-
-// The words from a place to an end, at most so many.
-pub fn words_to(words: &[u32], at: usize, end: usize, most: usize) -> &[u32] {
-    if end <= at {
-        return &words[0..0];
-    }
-    words_from(words, at, least(end - at, most))
 }

@@ -3,11 +3,11 @@ use Rattle.report.proofs.Printing.{fields_on, fields_end}
 use mathlib.Core.Path.{refl}
 use Rattle.report.proofs.lines.put_fields.Goals as goal
 
-pub loop-i-init : goal.loop-i-init
-loop-i-init c = (search rules, search rules, refl, refl)
+pub loop-n-init : goal.loop-n-init
+loop-n-init c = (search rules, search rules, refl, refl)
 
-pub loop-i-preserved : goal.loop-i-preserved
-loop-i-preserved c = (search rules, search rules, search rules, search fields_on)
+pub loop-n-preserved : goal.loop-n-preserved
+loop-n-preserved c = (search rules, search rules, search rules, search fields_on)
 
 pub returns : goal.returns
 returns c = record { puts = search fields_end; upper_bound = search rules }

@@ -1,0 +1,47 @@
+// A number with what it carries.
+ghost use Rattle.std.specs.Prelude.{◌≡◌, ℕ, ◌≤◌, length, take};
+ghost use Rattle.word.specs.Limits as Max;
+ghost use Rattle.scr.specs.Carried.{max_carried};
+
+use std::fmt;
+
+// No refusal carries more.
+pub const MAX_CARRIED: usize = 6;
+
+// The number of a refusal, and what it carries: the first `count` of `carried`, which has room for as many as any refusal carries.
+#[derive(Clone, Copy)]
+pub struct Told {
+    pub number: u32,
+    pub carried: [u64; MAX_CARRIED],
+    pub count: usize,
+    ghost known: { number ≤ Max.last_refusal },
+    ghost few: { count ≤ max_carried },
+}
+
+impl Told {
+    // What is carried as it stands, and zeros behind it.
+    pub fn new(number: u32, carried: &[u64]) -> Told
+        requires { (number ≤ Max.last_refusal) × (length carried.now ≤ max_carried) }
+        ensures number_value { result.number ≡ number }
+        ensures carried_value { take result.count result.carried ≡ carried.now }
+    {
+        let mut all = [0u64; MAX_CARRIED];
+        all[..carried.len()].copy_from_slice(carried);
+        Told {
+            number,
+            carried: all,
+            count: carried.len(),
+        }
+    }
+}
+
+// The number, and what is carried.
+impl fmt::Display for Told {
+    fn fmt<W: fmt::Write>(&self, f: &mut fmt::Formatter<W>) -> fmt::Result {
+        write!(f, "{}", self.number)?;
+        for carried in &self.carried[..self.count] {
+            write!(f, " {carried}")?;
+        }
+        Ok(())
+    }
+}

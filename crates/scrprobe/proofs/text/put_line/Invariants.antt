@@ -1,7 +1,0 @@
-use mathlib.Core.Path.{◌≡◌}
-use Prim.Native.Nat.{◌≤◌}
-use lib.ListN.{length}
-use Rattle.scrprobe.proofs.text.put_line.Given as goal
-
-abbrev pub invariant-loop-i : goal.invariant-loop-i
-invariant-loop-i l = (l.i ≤ length l.numbers) × (length l.out ≡ length l.initial.out)
