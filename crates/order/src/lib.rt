@@ -162,7 +162,7 @@ pub fn fill_masks(set: &Variables, masks: &mut [u32])
 }
 
 // A cycle of variables, each of which reads the next: the variable shown of it, and how many they are.
-#[derive(Clone, Copy)]
+#[derive(Clone, Copy, PartialEq, Eq)]
 pub struct Cycle {
     pub variable: usize,
     pub length: usize,

@@ -9,8 +9,7 @@ use Rattle.index.specs.declared.variables.Extent.{Extent}
 use Rattle.reader.specs.declared.faults.Fault as R
 use Rattle.reader.specs.Faults.{refusal, carried}
 use Rattle.reader.specs.Typed.{TypedAs}
-use Rattle.order.specs.declared.Order as O
-use Rattle.order.specs.declared.Order.TheVariants as OV
+use Rattle.order.specs.declared.Cycle as O
 use Rattle.order.specs.Orders.{order_at, no_cycle_at, cycle_said}
 use Rattle.order.proofs.Means.{order_means, order_below}
 use Rattle.theory.specs.Numbered.{typed_number}
@@ -28,19 +27,19 @@ pub index_few : (ws ps us : List ℕ) (t : Result Extent R.Fault) (x : Extent) �
 unfolding TypedAs
 index_few ws ps us t x h e = let p = rw e at h in p.1.indexed.few
 
-module _ (ws ps us os : List ℕ) (t : Result Extent R.Fault) (x : Extent) (o : O.Order) (h : TypedAs ws t ps us) (e : t ≡ Ok x)
+module _ (ws ps us os : List ℕ) (t : Result Extent R.Fault) (x : Extent) (o : Result (Unit {0}) O.Cycle) (h : TypedAs ws t ps us) (e : t ≡ Ok x)
     (eo : cycle_said o ≡ no_cycle_at ws ps x.variables) where
-  pub set_cycle : (w m : ℕ) → o ≡ OV.Cycle w m → SetAs ws (Err (Cycle (record { variable = w; length = m }))) ps us os
+  pub set_cycle : (c : O.Cycle) → o ≡ Err c → SetAs ws (Err (Cycle c)) ps us os
   unfolding SetAs TypedAs cycle_said read_set
-  set_cycle w m p =
+  set_cycle c p =
       let q = rw e at h in
-      let s : no_cycle q.0 ≡ refuse 9 (w ∷ m ∷ []) = sym (order_means q.1.indexed).1 ∙ sym eo ∙ rw p in
+      let s : no_cycle q.0 ≡ refuse 9 (c.variable ∷ c.length ∷ []) = sym (order_means q.1.indexed).1 ∙ sym eo ∙ rw p in
       rw (q.1.typed, s)
 
-  pub set_all : o ≡ OV.All → take (length (order_at ws ps x.variables)) os ≡ order_at ws ps x.variables → length os ≡ Max.max_variables
+  pub set_all : (u : Unit {0}) → o ≡ Ok u → take (length (order_at ws ps x.variables)) os ≡ order_at ws ps x.variables → length os ≡ Max.max_variables
       → SetAs ws (Ok x) ps us os
   unfolding SetAs TypedAs cycle_said read_set
-  set_all p take_is long =
+  set_all u p take_is long =
       let q = rw e at h in
       let m = order_means q.1.indexed in
       let s : no_cycle q.0 ≡ ok tt = sym m.1 ∙ sym eo ∙ rw p in (
@@ -55,6 +54,6 @@ module _ (ws ps us os : List ℕ) (t : Result Extent R.Fault) (x : Extent) (o : 
       )
 
 -- what is made of an error that is passed on
-pub passed_on : (r : Result Extent Fault) (f : R.Fault) → IsErrAnd r (λ g. g ≡ Unread f) → r ≡ Err (Unread f)
+pub passed_on : (r : Result Extent Fault) (f : Fault) → IsErrAnd r (λ g. g ≡ f) → r ≡ Err f
 passed_on (Ok x) f h = absurd h
 passed_on (Err g) f h = ap (λ (e : Fault). Err e) h

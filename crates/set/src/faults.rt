@@ -2,12 +2,7 @@
 ghost use Rattle.std.specs.Prelude.{◌≡◌};
 ghost use Rattle.set.specs.declared.faults.Fault.TheVariants as F;
 
-// Its variables depend on one another in a cycle: one of it, and how many there are.
-#[derive(Clone, Copy, PartialEq, Eq)]
-pub struct Cycle {
-    pub variable: usize,
-    pub length: usize,
-}
+use order::Cycle;
 
 #[derive(Clone, Copy, PartialEq, Eq)]
 pub enum Fault {

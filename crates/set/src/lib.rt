@@ -8,9 +8,9 @@ ghost use Rattle.word.specs.Limits as Max;
 ghost use Rattle.reader.specs.Typed.{no_places, no_weights};
 ghost use Rattle.set.specs.ReadSet.{SetAs};
 
-pub use faults::{Cycle, Fault};
-use index::Extent;
-use order::{Order, order_tables};
+pub use faults::Fault;
+use index::{Extent, Variables};
+use order::order_tables;
 use reader::read_typed;
 
 // How far the set goes; `places`, `weights` and `order` are written. Nothing is said of them after a refusal.
@@ -24,8 +24,11 @@ pub fn read_set(
     ensures { SetAs words.now result places.new weights.new order.new }
 {
     let extent = read_typed(words, &mut places[..], &mut weights[..])?;
-    match order_tables(words, &places[..], extent.variables, &mut order[..]) {
-        Order::All => Ok(extent),
-        Order::Cycle(variable, length) => Err(Fault::Cycle(Cycle { variable, length })),
-    }
+    let set = Variables {
+        words,
+        places: &places[..],
+        count: extent.variables,
+    };
+    order_tables(&set, &mut order[..])?;
+    Ok(extent)
 }

@@ -8,8 +8,8 @@ order_tables-requires c = (search (index_few, c.in_ok-extent.was), search rules)
 pub returns-in_err-extent : goal.returns-in_err-extent
 returns-in_err-extent c = rw (passed_on _ _ c.from_residual.ensures.1) (search (set_refused, c.in_err-extent.was))
 
-pub returns-in-All : goal.returns-in-All
-returns-in-All c = search (set_all, c.in_ok-extent.was)
+pub returns-in_err-order_tables : goal.returns-in_err-order_tables
+returns-in_err-order_tables c = rw (passed_on _ _ c.from_residual-in_err-order_tables.ensures.1) (search (set_cycle, c.in_ok-extent.was, c.in_err-order_tables.was))
 
-pub returns-in-Cycle : goal.returns-in-Cycle
-returns-in-Cycle c = search (set_cycle, c.in_ok-extent.was)
+pub returns : goal.returns
+returns c = search (set_all, c.in_ok-extent.was, c.in_ok-order_tables.was)
