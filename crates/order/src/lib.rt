@@ -116,7 +116,7 @@ fn rows_mask(words: &[u32], t: u32, at: usize, first: u32) -> u32
 {
     let mut mask = first;
     let mut on = at;
-    for i in 0..MAX_ROWS {
+    for _ in 0..MAX_ROWS {
         if words.len() <= on {
             return mask;
         }
