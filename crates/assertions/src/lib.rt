@@ -20,6 +20,7 @@ fn row<F: Fn(bool) -> bool>(
     ensures { (h : Bool → Bool) → ((x b : Bool) → F.post goes_on x b → b ≡ h x) → result ≡ row_from words.now values.now h most at }
 {
     let mut on = at;
+    // The next assertion stands where the formula ends, so they are no slice to go over; j is the assertion's number.
     for j in 0..most {
         if words.len() <= on {
             return j;

@@ -1,12 +1,6 @@
 -- One law for each way out.
-use mathlib.Core.Path.{◌≡◌, refl, sym, ◌∙◌}
-use mathlib.Core.List.{List}
-use mathlib.Core.Bool.{Bool, true, false, not, ◌&&◌, ◌||◌}
-use Prim.Native.Nat.{ℕ, zero, suc, ◌+◌, ◌-◌, ◌≤◌, ◌<◌}
-use native.Mathlib.Omega.{arith}
-use native.Mathlib.Numerals.{sub-one, add-one}
-use lib.ListN.{length, get_or}
-use lib.Dec.{eqb, leb}
+use Rattle.std.specs.Prelude.{◌≡◌, refl, List, Bool, true, false, not, ◌&&◌, ◌||◌, ℕ, zero, suc, ◌+◌, ◌-◌, ◌≤◌, ◌<◌, length, get_or, eqb, leb}
+use Rattle.std.proofs.Common.{sym, ◌∙◌, arith, sub-one, add-one}
 use borrow.Author.Tests.{ne_eqb, le-leb, lt-leb, not-true, not-false}
 use Rattle.word.specs.Fields as W
 use Rattle.word.specs.Limits as Max

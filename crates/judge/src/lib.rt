@@ -15,7 +15,7 @@ use index::{element, word_at};
 pub use rows::{condition_rows, event_rows};
 use word::{Change, Kind, Relation, Value, given, kind, operands, relation, sort, truth, variable};
 
-// A formula's truth, and the place after it.
+// A formula's truth, and the place after it. A type of its own, not one generic with the mask of a formula and its place: the field says which of them it has.
 #[derive(Clone, Copy)]
 pub struct Judged {
     pub value: bool,

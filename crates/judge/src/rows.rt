@@ -85,6 +85,7 @@ fn rows<J: RowJudge>(words: &[u32], judges: &J, mode: u32, at: usize) -> Got
 {
     let mut got = Got::Nothing;
     let mut on = at;
+    // The next row stands where the formula ends, so the rows are no slice to go over; i is the row's number.
     for i in 0..MAX_ROWS {
         if words.len() <= on {
             return got;

@@ -1,11 +1,8 @@
 -- The mask of a list of variables has a bit for each of them.
-use Prim.Native.Nat.{ℕ, ◌<◌}
-use mathlib.Core.Path.{◌≡◌, sym}
-use mathlib.Core.Bool.{◌||◌, or-false, or_assoc}
-use mathlib.Core.List.{List, [], ◌∷◌}
+use Rattle.std.specs.Prelude.{ℕ, ◌<◌, ◌≡◌, ◌||◌, List, [], ◌∷◌, eqb, bit_or}
+use Rattle.std.proofs.Common.{sym}
+use mathlib.Core.Bool.{or-false, or_assoc}
 use native.Mathlib.Decide.{ℕ_discrete}
-use lib.Dec.{eqb}
-use lib.Bits.{bit_or}
 use borrow.Author.Tests.{eq-eqb, ne_eqb}
 use Rattle.word.specs.Limits as Max
 use Rattle.meaning.specs.Searches.{mem}

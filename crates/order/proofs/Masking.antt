@@ -1,13 +1,8 @@
 -- The mask of a formula, and of a variable's table, has a bit for each variable that the meaning says it reads.
 -- What was scanned agrees with what was read, by the clauses of the reader; where reading stops nothing is said.
-use Prim.Native.Nat.{ℕ, zero, suc, ◌<◌}
-use mathlib.Core.Path.{◌≡◌, refl, sym, ◌∙◌, subst}
-use mathlib.Core.Bool.{Bool, true, false, ◌||◌, or-false, or_assoc}
-use mathlib.Core.List.{List, [], ◌∷◌}
-use native.Mathlib.Omega.{arith}
-use lib.Dec.{eqb, leb, ltb}
-use lib.Bits.{bit_or}
-use lib.ListN.{length, get_or}
+use Rattle.std.specs.Prelude.{ℕ, zero, suc, ◌<◌, ◌≡◌, refl, Bool, true, false, ◌||◌, List, [], ◌∷◌, eqb, leb, ltb, bit_or, length, get_or}
+use Rattle.std.proofs.Common.{sym, ◌∙◌, subst, arith}
+use mathlib.Core.Bool.{or-false, or_assoc}
 use borrow.Author.Tests.{ne_eqb}
 use Rattle.word.specs.Fields as W
 use Rattle.word.specs.Limits as Max

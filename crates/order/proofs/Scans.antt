@@ -1,14 +1,6 @@
 -- Laws of the scans for masks, one for each way out of a function.
-use Prim.Native.Nat.{ℕ, zero, suc, ◌+◌, ◌-◌, ◌≤◌, ◌<◌}
-use mathlib.Core.Path.{◌≡◌, refl, sym, ◌∙◌}
-use mathlib.Core.Bool.{true, false}
-use mathlib.Core.List.{List, [], ◌∷◌}
-use native.Mathlib.Omega.{arith}
-use native.Mathlib.Numerals.{sub-one, add-one}
-use lib.Dec.{eqb, leb}
-use lib.Bits.{bit_or}
-use lib.ListN.{length, get_or, set, take}
-use lib.Seq.{take_all, take-suc-set}
+use Rattle.std.specs.Prelude.{ℕ, zero, suc, ◌+◌, ◌-◌, ◌≤◌, ◌<◌, ◌≡◌, refl, true, false, List, [], ◌∷◌, eqb, leb, bit_or, length, get_or, set, take}
+use Rattle.std.proofs.Common.{sym, ◌∙◌, arith, sub-one, add-one, take_all, take-suc-set}
 use borrow.Author.Tests.{ne_eqb, eq-eqb, le-leb, lt-leb}
 use Rattle.word.specs.Fields as W
 use Rattle.word.specs.Limits as Max

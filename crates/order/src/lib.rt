@@ -16,7 +16,7 @@ use word::{
     Kind, MAX_DEPTH, MAX_ROWS, MAX_VARIABLES, TableType, class_read, kind, operands, sort, variable,
 };
 
-// What a formula reads, and the place after it.
+// What a formula reads, and the place after it. A type of its own, not one generic with a formula's truth and its place: the field says which of them it has.
 #[derive(Clone, Copy)]
 pub struct Masked {
     pub mask: u32,
@@ -116,7 +116,8 @@ fn rows_mask(words: &[u32], t: u32, at: usize, first: u32) -> u32
 {
     let mut mask = first;
     let mut on = at;
-    for i in 0..MAX_ROWS {
+    // The next row stands where the formula ends, so the rows are no slice to go over.
+    for _ in 0..MAX_ROWS {
         if words.len() <= on {
             return mask;
         }

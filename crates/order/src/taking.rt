@@ -98,6 +98,7 @@ impl<'a> Taking<'a> {
         ensures { result ≡ back_by self.now.masks.now self.now.count self.now.taken w }
     {
         let mut u = w;
+        // Each move starts where the one before ended, so the moves are no list to search; k counts them.
         for k in 0..self.count {
             u = self.move_on(u);
             if u == w {
