@@ -1,5 +1,5 @@
 -- Laws of the entries, one for each way out.
-use Rattle.std.specs.Prelude.{Err}
+use Rattle.std.specs.Prelude.{Result, Ok, Err, is_err}
 use mathlib.Core.Path.{◌≡◌, refl, sym, ap, ◌∙◌, subst}
 use mathlib.Core.Bool.{Bool, true, false, not}
 use mathlib.Core.List.{List, []}
@@ -18,22 +18,20 @@ use Rattle.meaning.specs.Check.{check_of}
 use Rattle.part.specs.Part.{start_at, end_at}
 use Rattle.part.proofs.Laws.{part_is, part_none}
 use Rattle.scr.specs.declared.Refusal.{Refusal}
-use Rattle.scr.specs.declared.opening.Index.{Index}
-use Rattle.scr.specs.declared.opening.Reading.{Reading}
-use Rattle.scr.specs.declared.opening.Reading.TheVariants as Readings
+use Rattle.scr.specs.declared.opening.Opened.{Opened}
 use Rattle.scr.specs.Answers.{refused, answer_says, verdict_says, answer_says, count_of}
-use Rattle.scr.specs.Opened.{IndexOf, ReadingAs, OpenedAs, is_ok, reads_well}
+use Rattle.scr.specs.Opened.{Opens, OpenedAs, is_ok, reads_well}
 
 -- ---- by what the entry begins with
-module _ (ws : List ℕ) (o : Index) (h : OpenedAs ws o) where
-  pub index_of : o.reading ≡ Readings.Set → IndexOf ws o
-  unfolding OpenedAs ReadingAs
-  index_of e = subst (λ (r : Reading). ReadingAs ws r o) e h
+module _ (ws : List ℕ) (r : Result Opened Refusal) (h : OpenedAs ws r) where
+  pub opens : (o : Opened) → r ≡ Ok o → Opens ws o
+  unfolding OpenedAs
+  opens o e = rw e at h
 
   -- a call that begins with the reading is refused as the reading is
-  module _ (q : Refusal) (e : o.reading ≡ Readings.Refused q) where
+  module _ (q : Refusal) (e : r ≡ Err q) where
     unread : read_set ws ≡ refused q
-    unfolding OpenedAs ReadingAs
+    unfolding OpenedAs
     unread = rw e at h
 
     refused_first : {B : Type 0} (f : TableSet → Outcome B) → refused q ≡ (read_set ws >>= f)
@@ -79,24 +77,32 @@ module _ (ws : List ℕ) (o : Index) (h : OpenedAs ws o) where
       kept_refused out = ap (λ (y : Outcome Values). lent_values y out) values_first
 
 -- ---- rows
-module _ (ws : List ℕ) (v : ℕ) (b : Bool) (eb : b ≡ reads_well ws) where
-  pub rows_unread : not b ≡ true → [] ≡ rows_of ws v
+module _ (ws : List ℕ) (v : ℕ) (r : Result Opened Refusal) (h : OpenedAs ws r) (b : Bool) (eb : b ≡ is_err r) where
+  reads_as : b ≡ not (reads_well ws)
+  unfolding reads_well OpenedAs is_ok refused
+  reads_as = eb ∙ go r h
+    where
+      go : (r : Result Opened Refusal) → OpenedAs ws r → is_err r ≡ not (is_ok (read_set ws))
+      go (Ok x) h = rw h.1.reads
+      go (Err q) h = rw h
+
+  pub rows_unread : b ≡ true → [] ≡ rows_of ws v
   unfolding rows_of rows_if reads_well is_ok
-  rows_unread f = go (read_set ws) (sym eb ∙ not-true b f)
+  rows_unread f = go (read_set ws) (not-true _ (sym reads_as ∙ f))
     where
       go : (o : Outcome TableSet) → is_ok o ≡ false → [] ≡ rows_if ws v o
       go (ok z) e = let x : ◌≡◌ {A = ℕ} 0 1 = cc in (let o : ⊥ = omega arith in absurd o)
       go (refuse n xs) e = refl
 
-  rows_read : not b ≡ false → rows_of ws v ≡ part_from ws (least (is_table_of ws v) (length ws))
+  rows_read : b ≡ false → rows_of ws v ≡ part_from ws (least (is_table_of ws v) (length ws))
   unfolding rows_of rows_if reads_well is_ok
-  rows_read f = go (read_set ws) (sym eb ∙ not-false b f)
+  rows_read f = go (read_set ws) (not-false _ (sym reads_as ∙ f))
     where
       go : (o : Outcome TableSet) → is_ok o ≡ true → rows_if ws v o ≡ part_from ws (least (is_table_of ws v) (length ws))
       go (ok z) e = refl
       go (refuse n xs) e = let x : ◌≡◌ {A = ℕ} 0 1 = cc in (let o : ⊥ = omega arith in absurd o)
 
-  module _ (a : ℕ) (f : not b ≡ false) (ea : a ≡ start_at ws v) where
+  module _ (a : ℕ) (f : b ≡ false) (ea : a ≡ start_at ws v) where
     pub rows_none : length ws ≤ a → [] ≡ rows_of ws v
     rows_none h = part_none ws v a ea h ∙ sym (rows_read f)
 

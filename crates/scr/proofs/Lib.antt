@@ -1,6 +1,6 @@
 pub mod Refusing
-pub mod Opened
 pub mod Indexing
+pub mod Reading
 pub mod Calling
 pub mod Deciding
 pub mod Performing

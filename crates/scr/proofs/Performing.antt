@@ -1,5 +1,5 @@
 -- Laws of a run of a set that reads, two for each way out: the answer, and the lent list.
-use Rattle.std.specs.Prelude.{Ok, Err}
+use Rattle.std.specs.Prelude.{Result, Ok, Err}
 use mathlib.Core.Path.{◌≡◌, refl, ◌∙◌}
 use mathlib.Core.List.{List, [], ◌∷◌, ◌++◌, append-nil}
 use Prim.Native.Nat.{ℕ, suc, ◌+◌, ◌-◌, ◌≤◌, ◌<◌}
@@ -13,115 +13,109 @@ use Rattle.word.specs.Limits as Max
 use Rattle.meaning.specs.Answers.{refuse}
 use Rattle.meaning.specs.Steps.{input_of}
 use Rattle.meaning.specs.Run.{run_ready, ran_of, run_of}
-use Rattle.simulator.specs.declared.Stepped.{Stepped}
-use Rattle.simulator.specs.declared.run.Ended.{Ended}
-use Rattle.simulator.specs.declared.run.Ended.TheVariants as E
-use Rattle.simulator.specs.StepIndex.{stepped_says}
+use Rattle.simulator.specs.declared.run.Stopped.{Stopped}
+use Rattle.simulator.specs.StepIndex.{no_step_is, stepped_says}
 use Rattle.simulator.specs.RunIndex.{ended_says, run_index}
 use Rattle.simulator.proofs.Means.{run_means}
+use Rattle.scr.specs.declared.Refusal.{Refusal}
 use Rattle.scr.specs.declared.Refusal.TheVariants as R
 use Rattle.scr.specs.Answers.{Answer, refusal_says, refused, answer_says}
-use Rattle.scr.specs.declared.opening.Index.{Index}
+use Rattle.index.specs.declared.variables.Extent.{Extent}
+use Rattle.index.specs.declared.variables.Index.{Index}
 use Rattle.scr.specs.Opened.{IndexOf, run_in}
-use Rattle.scr.proofs.Indexing.{lent_order, order_front, well, few, typed_state, no_state}
-
-pub room_none : (all place : ℕ) → all ≤ place → 0 ≡ all - place
-room_none all place h = omega arith
+use Rattle.scr.proofs.Refusing.{refused_says}
+use Rattle.scr.proofs.Indexing.{well, few, typed_state, no_state}
 
 -- ---- the events
-module _ (ws : List ℕ) (x : Index) (s : ℕ) (es : List ℕ) where
-  run_front : run_index ws x.places x.weights (lent_order x) x.variables 0 s es ≡ run_in ws x s es
-  unfolding run_in
-  run_front = rw (order_front x)
+module _ (x : Index) (s : ℕ) (es : List ℕ) where
+  module _ (r : Result ℕ Stopped) (er : ended_says r ≡ (run_index x.variables.words.now x.variables.places.now x.weights.now x.order.now x.variables.count 0 s es).last) where
+    pub performed_last : (t : ℕ) → r ≡ Ok t → answer_says (Ok t) ≡ (run_in x s es).last
+    unfolding ended_says answer_says run_in
+    performed_last t e = rw e at er
 
-  module _ (r : Ended) (er : ended_says r ≡ (run_index ws x.places x.weights (lent_order x) x.variables 0 s es).last) where
-    pub performed_last : (t : ℕ) → r ≡ E.Last t → answer_says (Ok t) ≡ (run_in ws x s es).last
-    unfolding ended_says answer_says
-    performed_last t e = (rw e at er) ∙ rw run_front
-
-    pub performed_refused : (t w : ℕ) (why : Stepped) (a : Answer) → r ≡ E.Refused t w why → answer_says a ≡ stepped_says t (input_of w) why
-        → answer_says a ≡ (run_in ws x s es).last
-    unfolding ended_says
-    performed_refused t w why a e ea = let p = rw e at er in ea ∙ p ∙ rw run_front
+    pub performed_stopped : (y : Stopped) (q : Refusal) → r ≡ Err y → refusal_says q ≡ no_step_is y.state (input_of y.event) y.why → answer_says (Err q) ≡ (run_in x s es).last
+    unfolding ended_says answer_says run_in stepped_says
+    performed_stopped y q e eq = refused_says q _ _ eq ∙ (rw e at er)
 
   pub performed_written : (lent after : List ℕ)
-      → after ≡ sets lent 0 (run_index ws x.places x.weights (lent_order x) x.variables 0 s es).done → after ≡ sets lent 0 (run_in ws x s es).done
-  performed_written lent after e = rw run_front at e
+      → after ≡ sets lent 0 (run_index x.variables.words.now x.variables.places.now x.weights.now x.order.now x.variables.count 0 s es).done → after ≡ sets lent 0 (run_in x s es).done
+  unfolding run_in
+  performed_written lent after e = e
 
 -- ---- the tests before them
-module _ (ws : List ℕ) (x : Index) (h : IndexOf ws x) (s : ℕ) (es lent : List ℕ) (place : ℕ) where
+module _ (x : Index) (ext : Extent) (h : IndexOf x ext) (s : ℕ) (es lent : List ℕ) (place : ℕ) where
   abbrev room : ℕ
   room = length lent - place
 
-  stopped : (k : ℕ) (xs : List ℕ) → run_ready ws s (length es) room ≡ refuse k xs → run_of ws s es lent place ≡ record { answer = refuse k xs; lent = lent }
+  stopped : (k : ℕ) (xs : List ℕ) → run_ready x.variables.words.now s (length es) room ≡ refuse k xs → run_of x.variables.words.now s es lent place ≡ record { answer = refuse k xs; lent = lent }
   unfolding run_of ran_of
   stopped k xs e = rw (e, ran_of)
 
-  many : Max.max_events < length es → run_ready ws s (length es) room ≡ refuse 17 (suc Max.max_events ∷ [])
+  many : Max.max_events < length es → run_ready x.variables.words.now s (length es) room ≡ refuse 17 (suc Max.max_events ∷ [])
   unfolding run_ready
-  many l = rw (h.read.reads, lt-leb (length es) Max.max_events l)
+  many l = rw (h.reads, lt-leb (length es) Max.max_events l)
 
-  short : length es ≤ Max.max_events → room < length es → run_ready ws s (length es) room ≡ refuse 17 (length es ∷ [])
+  short : length es ≤ Max.max_events → room < length es → run_ready x.variables.words.now s (length es) room ≡ refuse 17 (length es ∷ [])
   unfolding run_ready
-  short l k = rw (h.read.reads, le-leb (length es) Max.max_events l, lt-leb (length es) room k)
+  short l k = rw (h.reads, le-leb (length es) Max.max_events l, lt-leb (length es) room k)
 
-  untyped : length es ≤ Max.max_events → length es ≤ room → x.states ≤ s → run_ready ws s (length es) room ≡ refuse 15 (s ∷ [])
+  untyped : length es ≤ Max.max_events → length es ≤ room → ext.states ≤ s → run_ready x.variables.words.now s (length es) room ≡ refuse 15 (s ∷ [])
   unfolding run_ready
-  untyped l k c = rw (h.read.reads, le-leb (length es) Max.max_events l, le-leb (length es) room k, le-ltb s _ (no_state h s c))
+  untyped l k c = rw (h.reads, le-leb (length es) Max.max_events l, le-leb (length es) room k, le-ltb s _ (no_state h s c))
 
-  runs : length es ≤ Max.max_events → length es ≤ room → s < x.states
-      → run_of ws s es lent place ≡ record { answer = (run_in ws x s es).last; lent = sets lent place (run_in ws x s es).done }
+  runs : length es ≤ Max.max_events → length es ≤ room → s < ext.states
+      → run_of x.variables.words.now s es lent place ≡ record { answer = (run_in x s es).last; lent = sets lent place (run_in x s es).done }
   unfolding run_of ran_of run_ready run_in
   runs l k c =
       let typed = typed_state h s c in
       rw (
-        h.read.reads,
+        h.reads,
         le-leb (length es) Max.max_events l,
         le-leb (length es) room k,
         lt-ltb s _ typed,
-        h.read.order_is,
-        run_means ws h.set x.variables x.assertions x.places x.weights h.read.typed.indexed (well h) h.read.typed.weights_are
-            h.read.acyclic (few h) 0 s es typed,
+        h.order_is,
+        run_means x.variables.words.now h.set x.variables.count ext.assertions x.variables.places.now x.weights.now h.typed.indexed (well h) h.typed.weights_are
+            h.acyclic (few h) 0 s es typed,
         ran_of,
       )
 
   module _ (l : Max.max_events < length es) where
-    pub many_answer : answer_says (Err (R.Room (Max.max_events + 1))) ≡ (run_of ws s es lent place).answer
+    pub many_answer : answer_says (Err (R.Room (Max.max_events + 1))) ≡ (run_of x.variables.words.now s es lent place).answer
     unfolding answer_says refused refusal_says
     many_answer = rw (stopped 17 _ (many l))
 
-    pub many_kept : lent ≡ (run_of ws s es lent place).lent
+    pub many_kept : lent ≡ (run_of x.variables.words.now s es lent place).lent
     many_kept = rw (stopped 17 _ (many l))
 
   module _ (free : ℕ) (ef : free ≡ room) (l : length es ≤ Max.max_events) where
     module _ (k : free < length es) where
-      abbrev Short : run_ready ws s (length es) room ≡ refuse 17 (length es ∷ [])
+      abbrev Short : run_ready x.variables.words.now s (length es) room ≡ refuse 17 (length es ∷ [])
       Short = short l (rw (← ef) k)
 
-      pub short_answer : answer_says (Err (R.Room (length es))) ≡ (run_of ws s es lent place).answer
+      pub short_answer : answer_says (Err (R.Room (length es))) ≡ (run_of x.variables.words.now s es lent place).answer
       unfolding answer_says refused refusal_says
       short_answer = rw (stopped 17 _ Short)
 
-      pub short_kept : lent ≡ (run_of ws s es lent place).lent
+      pub short_kept : lent ≡ (run_of x.variables.words.now s es lent place).lent
       short_kept = rw (stopped 17 _ Short)
 
     module _ (k : length es ≤ free) where
       enough : length es ≤ room
       enough = rw (← ef) k
 
-      module _ (c : x.states ≤ s) where
-        pub state_answer : answer_says (Err (R.NoState s)) ≡ (run_of ws s es lent place).answer
+      module _ (c : ext.states ≤ s) where
+        pub state_answer : answer_says (Err (R.NoState s)) ≡ (run_of x.variables.words.now s es lent place).answer
         unfolding answer_says refused refusal_says
         state_answer = rw (stopped 15 _ (untyped l enough c))
 
-        pub state_kept : lent ≡ (run_of ws s es lent place).lent
+        pub state_kept : lent ≡ (run_of x.variables.words.now s es lent place).lent
         state_kept = rw (stopped 15 _ (untyped l enough c))
 
-      module _ (c : s < x.states) where
-        pub run_answer : (a : Answer) → answer_says a ≡ (run_in ws x s es).last → answer_says a ≡ (run_of ws s es lent place).answer
+      module _ (c : s < ext.states) where
+        pub run_answer : (a : Answer) → answer_says a ≡ (run_in x s es).last → answer_says a ≡ (run_of x.variables.words.now s es lent place).answer
         run_answer a e = rw (runs l enough c) e
 
-        pub run_written : (after : List ℕ) → after ≡ sets lent place (run_in ws x s es).done → after ≡ (run_of ws s es lent place).lent
+        pub run_written : (after : List ℕ) → after ≡ sets lent place (run_in x s es).done → after ≡ (run_of x.variables.words.now s es lent place).lent
         run_written after e = rw (runs l enough c) e
 
 -- ---- a place at or past the end: there are no events
@@ -129,15 +123,15 @@ none_left : (es : List ℕ) → length es ≤ 0 → es ≡ []
 none_left [] h = refl
 none_left (e ∷ es) h = let o : ⊥ = omega arith in absurd o
 
-module _ (ws : List ℕ) (x : Index) (s : ℕ) (es lent : List ℕ) (place : ℕ) (l : length es ≤ length lent - place) (m : length lent ≤ place) where
+module _ (x : Index) (s : ℕ) (es lent : List ℕ) (place : ℕ) (l : length es ≤ length lent - place) (m : length lent ≤ place) where
   none : es ≡ []
   none = none_left es (let z : length es ≤ 0 = omega arith in z)
 
-  pub past_answer : answer_says (Ok s) ≡ (run_in ws x s es).last
+  pub past_answer : answer_says (Ok s) ≡ (run_in x s es).last
   unfolding answer_says run_in run_index
   past_answer = rw none
 
-  pub past_kept : lent ≡ sets lent place (run_in ws x s es).done
+  pub past_kept : lent ≡ sets lent place (run_in x s es).done
   unfolding run_in run_index
   past_kept = rw none
 

@@ -23,26 +23,15 @@ ghost use Rattle.meaning.specs.Check.{check_of};
 ghost use Rattle.scr.specs.Answers.{answer_says, verdict_says, count_of};
 ghost use Rattle.scr.specs.Promises.{Demand2, StartsExactly, StepsExactly, ValuesExactly};
 
-use crate::opening::{Reading, open};
+use crate::opening::open;
+pub use order::Cycle;
 use part::{part_end, part_start};
+pub use simulator::Input;
+use state::initial_state;
 use verdicts::verdict;
 use word::Value;
 
 // ---- answers
-
-// An input event: a monitored variable and its new value.
-#[derive(Clone, Copy)]
-pub struct Input {
-    pub variable: usize,
-    pub value: Value,
-}
-
-// The cycle shown: a variable and the number of moves back to it.
-#[derive(Clone, Copy)]
-pub struct Cycle {
-    pub variable: usize,
-    pub length: usize,
-}
 
 // A condition table without a row that holds. Side 0 is the state given, 1 the one after a step, which carries the state before.
 #[derive(Clone, Copy)]
@@ -119,12 +108,8 @@ pub fn start(words: &[u32]) -> Result<u32, Refusal>
     ensures answers_or_refuses { AnswersOrRefuses (answer_says result) start_numbers (StartRefused words.now) }
     ensures starts_exactly { StartsExactly words.now result }
 {
-    let index = open(words);
-    let reading = index.reading;
-    match reading {
-        Reading::Refused(q) => Err(q),
-        Reading::Set => calls::start(words, index),
-    }
+    let opened = open(words)?;
+    Ok(initial_state(&opened.index(words)))
 }
 
 // The word that a set may be loaded. Every typed state, every typed step and every assertion counts; which steps are looked at singly is the
@@ -134,12 +119,8 @@ pub fn check(words: &[u32]) -> Result<Counts, Refusal>
     ensures answers_or_refuses { AnswersOrRefuses (verdict_says result) check_numbers (Refused words.now) }
     ensures demand2 { Demand2 words.now result }
 {
-    let index = open(words);
-    let reading = index.reading;
-    match reading {
-        Reading::Refused(q) => Err(q),
-        Reading::Set => verdict(words, index),
-    }
+    let opened = open(words)?;
+    verdict(&opened.index(words), opened.extent)
 }
 
 // The next state, or the refusal. It answers a state exactly if that is the one next state by the SCR rules, met without gap or overlap,
@@ -149,12 +130,8 @@ pub fn step(words: &[u32], state: u32, event: u32) -> Result<u32, Refusal>
     ensures answers_or_refuses { AnswersOrRefuses (answer_says result) step_numbers (StepRefused words.now state event) }
     ensures steps_exactly { StepsExactly words.now state event result }
 {
-    let index = open(words);
-    let reading = index.reading;
-    match reading {
-        Reading::Refused(q) => Err(q),
-        Reading::Set => calls::step(words, index, state, event),
-    }
+    let opened = open(words)?;
+    calls::step(&opened.index(words), opened.extent, state, event)
 }
 
 // The events in turn from a state on. The state after each event done is written to the lent list from the place on, and the last is given;
@@ -171,12 +148,15 @@ pub fn run(
     ensures run_answers { RunAnswers words.now state events.now trace.old place (answer_says result) trace.new }
     ensures demand3 { Demand3 words.now state events.now trace.old place (answer_says result) trace.new }
 {
-    let index = open(words);
-    let reading = index.reading;
-    match reading {
-        Reading::Refused(q) => Err(q),
-        Reading::Set => runs::run(words, index, state, events, &mut trace[..], place),
-    }
+    let opened = open(words)?;
+    runs::run(
+        &opened.index(words),
+        opened.extent,
+        state,
+        events,
+        trace,
+        place,
+    )
 }
 
 // The values of a state, one a variable at the front of a lent list; elements beyond keep their content. They are written exactly if they are the
@@ -187,12 +167,8 @@ pub fn values(words: &[u32], state: u32, out: &mut [Value]) -> Result<usize, Ref
     ensures answers_or_refuses { AnswersOrRefuses (answer_says result) values_numbers (ValuesRefused words.now state (length out.old)) }
     ensures values_exactly { ValuesExactly words.now state out.old result out.new }
 {
-    let index = open(words);
-    let reading = index.reading;
-    match reading {
-        Reading::Refused(q) => Err(q),
-        Reading::Set => calls::values(words, index, state, &mut out[..]),
-    }
+    let opened = open(words)?;
+    calls::values(&opened.index(words), opened.extent, state, out)
 }
 
 // The rows of a variable's table, as a part of the caller's words: those that reading the table took, its table word first; the empty part
@@ -201,7 +177,7 @@ pub fn rows(words: &[u32], variable: u32) -> &[u32]
     ensures result_value { result.now ≡ rows_of words.now variable }
     ensures rows_answers { RowsAnswers words.now variable result.now }
 {
-    if !calls::reads(words) {
+    if open(words).is_err() {
         return &words[0..0];
     }
     let a = part_start(words, variable);

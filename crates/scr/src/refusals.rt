@@ -1,136 +1,129 @@
-// Making the refusals: each function's promise is its number in the documents and what is carried.
-ghost use Rattle.std.specs.Prelude.{◌≡◌, true, List, [], ◌∷◌, ℕ};
-ghost use Rattle.meaning.specs.Answers.{typed_numbers};
-ghost use Rattle.meaning.specs.Searches.{mem};
+// What the layers below refuse, as the documents' refusals: each promise is the number and what is carried.
+ghost use Rattle.std.specs.Prelude.{◌≡◌, [], ◌∷◌, ℕ};
 ghost use Rattle.meaning.specs.Steps.{input_of};
-ghost use Rattle.simulator.specs.StepIndex.{stepped_says};
+ghost use Rattle.reader.specs.Faults.{refusal, carried};
+ghost use Rattle.set.specs.ReadSet.{unread_is};
+ghost use Rattle.simulator.specs.Walks.{clash_is};
+ghost use Rattle.simulator.specs.StepIndex.{no_step_is};
 ghost use Rattle.checker.specs.Sweeps.{fault_is};
-ghost use Rattle.scr.specs.Answers.{refusal_says, answer_says};
+ghost use Rattle.checker.specs.Checked.{refused_is};
+ghost use Rattle.scr.specs.Answers.{refusal_says};
 
-use crate::{Broken, Cycle, Gap, Input, Overlap, Refusal, StepOverlap};
-use checker::{Fault, Note};
-use simulator::Stepped;
+use crate::{Broken, Gap, Input, Overlap, Refusal, StepOverlap};
+use checker::Place;
+use simulator::{Clash, NoStep, Unsettled};
 use word::{given, variable};
 
-// What reading refuses before the dependency order carries one number.
-pub fn reading(number: u32, carried: usize) -> Refusal
-    requires { mem number typed_numbers ≡ true }
-    ensures { refusal_says result ≡ (number, carried ∷ []) }
-{
-    match number {
-        1 => Refusal::Length(carried),
-        2 => Refusal::Kind(carried),
-        3 => Refusal::Range(carried),
-        4 => Refusal::Limit(carried),
-        5 => Refusal::Fit(carried),
-        6 => Refusal::NoTable(carried),
-        7 => Refusal::InitialValue(carried),
-        21 => Refusal::Order(carried),
-        _ => Refusal::States(carried),
-    }
-}
+// ---- of reading
+impl From<reader::Fault> for Refusal {
+    ghost from_gives = { λ f q. refusal_says q ≡ (refusal f, carried f ∷ []) };
 
-pub fn cycle(variable: usize, length: usize) -> Refusal
-    ensures { refusal_says result ≡ (9, variable ∷ length ∷ []) }
-{
-    let c = Cycle {
-        variable: variable,
-        length: length,
-    };
-    Refusal::Cycle(c)
-}
-
-pub fn gap(side: u32, state: u32, variable: usize) -> Refusal
-    ensures { refusal_says result ≡ (10, side ∷ state ∷ variable ∷ []) }
-{
-    let g = Gap {
-        side: side,
-        state: state,
-        variable: variable,
-    };
-    Refusal::Gap(g)
-}
-
-pub fn overlap(side: u32, state: u32, variable: usize, first: usize, second: usize) -> Refusal
-    ensures { refusal_says result ≡ (11, side ∷ state ∷ variable ∷ first ∷ second ∷ []) }
-{
-    let o = Overlap {
-        side: side,
-        state: state,
-        variable: variable,
-        first: first,
-        second: second,
-    };
-    Refusal::Overlap(o)
-}
-
-// The input event is the one of event word w.
-pub fn step_overlap(state: u32, w: u32, v: usize, first: usize, second: usize) -> Refusal
-    ensures { refusal_says result ≡ (12, state ∷ (input_of w).variable ∷ (input_of w).value ∷ v ∷ first ∷ second ∷ []) }
-{
-    let input = Input {
-        variable: variable(w) as usize,
-        value: given(w),
-    };
-    let o = StepOverlap {
-        state: state,
-        input: input,
-        variable: v,
-        first: first,
-        second: second,
-    };
-    Refusal::StepOverlap(o)
-}
-
-// The answer of a step from a state by event word w.
-pub fn stepped(state: u32, w: u32, r: Stepped) -> Result<u32, Refusal>
-    ensures { answer_says result ≡ stepped_says state (input_of w) r }
-{
-    match r {
-        Stepped::State(t) => Ok(t),
-        Stepped::NotEnabled(i) => Err(Refusal::NotEnabled(i)),
-        Stepped::Gap(side, v) => Err(gap(side, state, v)),
-        Stepped::Overlap(side, v, i, j) => Err(overlap(side, state, v, i, j)),
-        Stepped::StepOverlap(v, i, j) => Err(step_overlap(state, w, v, i, j)),
-    }
-}
-
-// A gap or an overlap that check met.
-pub fn fault(f: Fault) -> Refusal
-    ensures { refusal_says result ≡ fault_is f }
-{
-    match f {
-        Fault::Gap(side, s, v) => gap(side, s, v),
-        Fault::Overlap(side, s, v, i, j) => overlap(side, s, v, i, j),
-        Fault::StepOverlap(s, u, k, v, i, j) => {
-            let input = Input {
-                variable: u,
-                value: k,
-            };
-            let o = StepOverlap {
-                state: s,
-                input: input,
-                variable: v,
-                first: i,
-                second: j,
-            };
-            Refusal::StepOverlap(o)
+    #[tactic(auto, unfolding(crate::specs::Answers::refusal_says, reader::specs::Faults::refusal, reader::specs::Faults::carried))]
+    fn from(fault: reader::Fault) -> Refusal {
+        match fault {
+            reader::Fault::Length(n) => Refusal::Length(n),
+            reader::Fault::Kind(i) => Refusal::Kind(i),
+            reader::Fault::Range(i) => Refusal::Range(i),
+            reader::Fault::Limit(i) => Refusal::Limit(i),
+            reader::Fault::Fit(i) => Refusal::Fit(i),
+            reader::Fault::NoTable(v) => Refusal::NoTable(v),
+            reader::Fault::InitialValue(v) => Refusal::InitialValue(v),
+            reader::Fault::States(v) => Refusal::States(v),
+            reader::Fault::Order(i) => Refusal::Order(i),
         }
     }
 }
 
-// The assertion that check noted as broken, with its first step.
-pub fn broken(x: Note) -> Refusal
-    ensures { refusal_says result ≡ (14, x.bound ∷ x.state ∷ x.variable ∷ x.value ∷ []) }
+impl From<set::Fault> for Refusal {
+    ghost from_gives = { λ f q. refusal_says q ≡ unread_is f };
+
+    #[tactic(auto, unfolding(crate::specs::Answers::refusal_says, set::specs::ReadSet::unread_is))]
+    fn from(fault: set::Fault) -> Refusal {
+        match fault {
+            set::Fault::Unread(fault) => Refusal::from(fault),
+            set::Fault::Cycle(cycle) => Refusal::Cycle(cycle),
+        }
+    }
+}
+
+// ---- of a state and of a step
+// A variable that has no value: on side 0 in the state itself, on side 1 after the step from it by the input event.
+#[tactic(auto, unfolding(crate::specs::Answers::refusal_says, simulator::specs::Walks::clash_is))]
+pub fn unsettled(side: u32, state: u32, input: Input, fault: Unsettled) -> Refusal
+    ensures { refusal_says result ≡ clash_is side state (record { variable = input.variable; value = input.value }) fault.variable fault.why }
+{
+    let variable = fault.variable;
+    match fault.why {
+        Clash::Gap => Refusal::Gap(Gap {
+            side,
+            state,
+            variable,
+        }),
+        Clash::Overlap(first, second) => Refusal::Overlap(Overlap {
+            side,
+            state,
+            variable,
+            first,
+            second,
+        }),
+        Clash::StepOverlap(first, second) => Refusal::StepOverlap(StepOverlap {
+            state,
+            input,
+            variable,
+            first,
+            second,
+        }),
+    }
+}
+
+// Why there is no step from a state by an event word.
+#[tactic(auto, unfolding(crate::specs::Answers::refusal_says, simulator::specs::StepIndex::no_step_is, meaning::specs::Steps::input_of))]
+pub fn no_step(state: u32, event: u32, why: NoStep) -> Refusal
+    ensures { refusal_says result ≡ no_step_is state (input_of event) why }
 {
     let input = Input {
-        variable: x.variable,
-        value: x.value,
+        variable: variable(event) as usize,
+        value: given(event),
     };
-    let b = Broken {
-        assertion: x.bound,
-        state: x.state,
-        input: input,
-    };
-    Refusal::Broken(b)
+    match why {
+        NoStep::NotEnabled(i) => Refusal::NotEnabled(i),
+        NoStep::Before(fault) => unsettled(0, state, input, fault),
+        NoStep::After(fault) => unsettled(1, state, input, fault),
+    }
+}
+
+// ---- of check
+impl From<checker::Fault> for Refusal {
+    ghost from_gives = { λ f q. refusal_says q ≡ fault_is f };
+
+    #[tactic(auto, unfolding(checker::specs::Sweeps::fault_is))]
+    fn from(fault: checker::Fault) -> Refusal {
+        match fault.place {
+            Place::InState(state) => {
+                let none = Input {
+                    variable: 0,
+                    value: 0,
+                };
+                unsettled(0, state, none, fault.unsettled)
+            }
+            Place::AfterStep(state, input) => unsettled(1, state, input, fault.unsettled),
+        }
+    }
+}
+
+impl From<checker::Refused> for Refusal {
+    ghost from_gives = { λ r q. refusal_says q ≡ refused_is r };
+
+    #[tactic(auto, unfolding(crate::specs::Answers::refusal_says, checker::specs::Checked::refused_is))]
+    fn from(refused: checker::Refused) -> Refusal {
+        match refused {
+            checker::Refused::Fault(fault) => Refusal::from(fault),
+            checker::Refused::FalseInitially(j) => Refusal::FalseInitially(j),
+            checker::Refused::Broken(note) => Refusal::Broken(Broken {
+                assertion: note.bound,
+                state: note.state,
+                input: note.input,
+            }),
+        }
+    }
 }

@@ -20,6 +20,11 @@ pub record ReadSet (ws : List ℕ) (z : TableSet) (n a c : ℕ) (ps us os : List
   pub order_is : take n os ≡ order z
   pub order_long : length os ≡ Max.max_variables
 
+-- why a set is not read: the number of the refusal, and what it carries
+unfoldable pub unread_is : Fault → ℕ × List ℕ
+unread_is (Unread f) = (refusal f, carried f ∷ [])
+unread_is (Cycle c) = (9, c.variable ∷ c.length ∷ [])
+
 unfoldable pub SetAs : List ℕ → Result Extent Fault → List ℕ → List ℕ → List ℕ → Type 0
 SetAs ws (Ok e) ps us os = (z : TableSet) × ReadSet ws z e.variables e.assertions e.states ps us os
 SetAs ws (Err (Unread f)) ps us os = (read_set ws ≡ refuse (refusal f) (carried f ∷ [])) × (mem (refusal f) typed_numbers ≡ true)

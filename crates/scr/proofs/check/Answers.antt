@@ -1,13 +1,21 @@
+use Rattle.std.proofs.Common.{◌≡◌, rules, length}
+use Rattle.std.proofs.lemmas.Result.{err_from_is_err_and}
+use Rattle.meaning.specs.Check.{check_of}
+use Rattle.scr.specs.Answers.{verdict_says}
+use Rattle.scr.proofs.Entering.{opens, check_refused}
 use Rattle.scr.proofs.Demanded.{check_demand, demand_2}
-use Rattle.scr.proofs.Entering.{index_of, check_refused}
-use borrow.Author.Rules.{rules}
 use Rattle.scr.proofs.check.Goals as goal
 
-pub verdict-requires : goal.verdict-requires
-verdict-requires c = search index_of
+pub index-requires : goal.index-requires
+index-requires c = opens _ _ c.open.ensures _ c.in_ok-opened.was
 
-pub returns-in-Refused : goal.returns-in-Refused
-returns-in-Refused c = record { result_value = search check_refused; answers_or_refuses = check_demand _ _ (search check_refused); demand2 = demand_2 _ _ (search check_refused) }
+pub returns-in_err-opened : goal.returns-in_err-opened
+returns-in_err-opened c =
+    let p = err_from_is_err_and c.from_residual.result c.from_residual.ensures.1 in
+    let v : verdict_says c.from_residual.result ≡ check_of c.args.words.now = rw (p.1, p.2) (check_refused _ _ c.open.ensures _ c.in_err-opened.was) in
+    record { result_value = v; answers_or_refuses = check_demand _ _ v; demand2 = demand_2 _ _ v }
 
-pub returns-in-Set : goal.returns-in-Set
-returns-in-Set c = record { result_value = search rules; answers_or_refuses = check_demand _ _ (search rules); demand2 = demand_2 _ _ (search rules) }
+pub returns : goal.returns
+returns c =
+    let v = rw c.index.ensures.words_value at c.verdict.ensures in
+    record { result_value = v; answers_or_refuses = check_demand _ _ v; demand2 = demand_2 _ _ v }

@@ -3,8 +3,8 @@ use Rattle.part.proofs.Laws.{end_after, end_within}
 use Rattle.scr.proofs.Entering.{rows_unread, rows_none, rows_part}
 use Rattle.scr.proofs.rows.Goals as goal
 
-pub returns-then-not-reads : goal.returns-then-not-reads
-returns-then-not-reads c = record { result_value = search rows_unread; rows_answers = rows_demand _ _ _ (search rows_unread) }
+pub returns-then-is_err : goal.returns-then-is_err
+returns-then-is_err c = record { result_value = search rows_unread; rows_answers = rows_demand _ _ _ (search rows_unread) }
 
 pub returns-then-words-a : goal.returns-then-words-a
 returns-then-words-a c = record { result_value = search rows_none; rows_answers = rows_demand _ _ _ (search rows_none) }

@@ -1,13 +1,23 @@
+use Rattle.std.proofs.Common.{◌≡◌, rules, length}
+use Rattle.std.proofs.lemmas.Result.{err_from_is_err_and}
+use Rattle.meaning.specs.Run.{run_of}
+use Rattle.scr.specs.Answers.{answer_says}
+use Rattle.scr.proofs.Entering.{opens, run_refused, run_kept}
 use Rattle.scr.proofs.Demanded.{run_demand, demand_3}
-use Rattle.scr.proofs.Entering.{index_of, run_refused, run_kept}
-use borrow.Author.Rules.{rules}
 use Rattle.scr.proofs.run.Goals as goal
 
-pub run-requires : goal.run-requires
-run-requires c = search index_of
+pub index-requires : goal.index-requires
+index-requires c = opens _ _ c.open.ensures _ c.in_ok-opened.was
 
-pub returns-in-Refused : goal.returns-in-Refused
-returns-in-Refused c = record { result_value = search run_refused; trace_after = search run_kept; run_answers = run_demand _ _ _ _ _ _ _ (search run_refused) (search run_kept); demand3 = demand_3 _ _ _ _ _ _ _ (search run_refused) (search run_kept) }
+pub returns-in_err-opened : goal.returns-in_err-opened
+returns-in_err-opened c =
+    let p = err_from_is_err_and c.from_residual.result c.from_residual.ensures.1 in
+    let v : answer_says c.from_residual.result ≡ (run_of c.args.words.now c.args.state c.args.events.now c.args.trace.now c.args.place).answer = rw (p.1, p.2) (run_refused _ _ c.open.ensures _ c.in_err-opened.was _ _ _ _) in
+    let k = run_kept _ _ c.open.ensures _ c.in_err-opened.was c.args.state c.args.events.now c.args.trace.now c.args.place in
+    record { result_value = v; trace_after = k; run_answers = run_demand _ _ _ _ _ _ _ v k; demand3 = demand_3 _ _ _ _ _ _ _ v k }
 
-pub returns-in-Set : goal.returns-in-Set
-returns-in-Set c = record { result_value = search rules; trace_after = search rules; run_answers = run_demand _ _ _ _ _ _ _ (search rules) (search rules); demand3 = demand_3 _ _ _ _ _ _ _ (search rules) (search rules) }
+pub returns : goal.returns
+returns c =
+    let v = rw c.index.ensures.words_value at c.run.ensures.result_value in
+    let k = rw c.index.ensures.words_value at c.run.ensures.trace_after in
+    record { result_value = v; trace_after = k; run_answers = run_demand _ _ _ _ _ _ _ v k; demand3 = demand_3 _ _ _ _ _ _ _ v k }

@@ -1,13 +1,22 @@
+use Rattle.std.proofs.Common.{◌≡◌, rules, length}
+use Rattle.std.proofs.lemmas.Result.{err_from_is_err_and}
+use Rattle.meaning.specs.Calls.{start_of}
+use Rattle.scr.specs.Answers.{answer_says}
+use Rattle.scr.proofs.Calling.{start_state}
+use Rattle.scr.proofs.Entering.{opens, start_refused}
 use Rattle.scr.proofs.Demanded.{start_demand, starts_exactly}
-use Rattle.scr.proofs.Entering.{index_of, start_refused}
-use borrow.Author.Rules.{rules}
 use Rattle.scr.proofs.start.Goals as goal
 
-pub start-requires : goal.start-requires
-start-requires c = search index_of
+pub index-requires : goal.index-requires
+index-requires c = opens _ _ c.open.ensures _ c.in_ok-opened.was
 
-pub returns-in-Refused : goal.returns-in-Refused
-returns-in-Refused c = record { result_value = search start_refused; answers_or_refuses = start_demand _ _ (search start_refused); starts_exactly = starts_exactly _ _ (search start_refused) }
+pub returns-in_err-opened : goal.returns-in_err-opened
+returns-in_err-opened c =
+    let p = err_from_is_err_and c.from_residual.result c.from_residual.ensures.1 in
+    let v : answer_says c.from_residual.result ≡ start_of c.args.words.now = rw (p.1, p.2) (start_refused _ _ c.open.ensures _ c.in_err-opened.was) in
+    record { result_value = v; answers_or_refuses = start_demand _ _ v; starts_exactly = starts_exactly _ _ v }
 
-pub returns-in-Set : goal.returns-in-Set
-returns-in-Set c = record { result_value = search rules; answers_or_refuses = start_demand _ _ (search rules); starts_exactly = starts_exactly _ _ (search rules) }
+pub returns : goal.returns
+returns c =
+    let v = rw c.index.ensures.words_value at (start_state _ _ c.index.ensures.index_of _ c.initial_state.ensures) in
+    record { result_value = v; answers_or_refuses = start_demand _ _ v; starts_exactly = starts_exactly _ _ v }

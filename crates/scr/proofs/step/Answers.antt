@@ -1,13 +1,21 @@
+use Rattle.std.proofs.Common.{◌≡◌, rules, length}
+use Rattle.std.proofs.lemmas.Result.{err_from_is_err_and}
+use Rattle.meaning.specs.Steps.{step_of}
+use Rattle.scr.specs.Answers.{answer_says}
+use Rattle.scr.proofs.Entering.{opens, step_refused}
 use Rattle.scr.proofs.Demanded.{step_demand, steps_exactly}
-use Rattle.scr.proofs.Entering.{index_of, step_refused}
-use borrow.Author.Rules.{rules}
 use Rattle.scr.proofs.step.Goals as goal
 
-pub step-requires : goal.step-requires
-step-requires c = search index_of
+pub index-requires : goal.index-requires
+index-requires c = opens _ _ c.open.ensures _ c.in_ok-opened.was
 
-pub returns-in-Refused : goal.returns-in-Refused
-returns-in-Refused c = record { result_value = search step_refused; answers_or_refuses = step_demand _ _ _ _ (search step_refused); steps_exactly = steps_exactly _ _ _ _ (search step_refused) }
+pub returns-in_err-opened : goal.returns-in_err-opened
+returns-in_err-opened c =
+    let p = err_from_is_err_and c.from_residual.result c.from_residual.ensures.1 in
+    let v : answer_says c.from_residual.result ≡ step_of c.args.words.now c.args.state c.args.event = rw (p.1, p.2) (step_refused _ _ c.open.ensures _ c.in_err-opened.was _ _) in
+    record { result_value = v; answers_or_refuses = step_demand _ _ _ _ v; steps_exactly = steps_exactly _ _ _ _ v }
 
-pub returns-in-Set : goal.returns-in-Set
-returns-in-Set c = record { result_value = search rules; answers_or_refuses = step_demand _ _ _ _ (search rules); steps_exactly = steps_exactly _ _ _ _ (search rules) }
+pub returns : goal.returns
+returns c =
+    let v = rw c.index.ensures.words_value at c.step.ensures in
+    record { result_value = v; answers_or_refuses = step_demand _ _ _ _ v; steps_exactly = steps_exactly _ _ _ _ v }

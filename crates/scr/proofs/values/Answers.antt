@@ -1,13 +1,23 @@
+use Rattle.std.proofs.Common.{◌≡◌, rules, length}
+use Rattle.std.proofs.lemmas.Result.{err_from_is_err_and}
+use Rattle.meaning.specs.Calls.{values_of}
+use Rattle.scr.specs.Answers.{answer_says, count_of}
+use Rattle.scr.proofs.Entering.{opens, values_refused, kept_refused}
 use Rattle.scr.proofs.Demanded.{values_demand, values_shown}
-use Rattle.scr.proofs.Entering.{index_of, values_refused, kept_refused}
-use borrow.Author.Rules.{rules}
 use Rattle.scr.proofs.values.Goals as goal
 
-pub values-requires : goal.values-requires
-values-requires c = search index_of
+pub index-requires : goal.index-requires
+index-requires c = opens _ _ c.open.ensures _ c.in_ok-opened.was
 
-pub returns-in-Refused : goal.returns-in-Refused
-returns-in-Refused c = record { result_value = search values_refused; out_after = search kept_refused; answers_or_refuses = search (values_demand, values_refused); values_exactly = values_shown _ _ _ _ _ (search values_refused) (search kept_refused) }
+pub returns-in_err-opened : goal.returns-in_err-opened
+returns-in_err-opened c =
+    let p = err_from_is_err_and c.from_residual.result c.from_residual.ensures.1 in
+    let v : answer_says c.from_residual.result ≡ count_of (values_of c.args.words.now c.args.state (length c.args.out.now)) = rw (p.1, p.2) (values_refused _ _ c.open.ensures _ c.in_err-opened.was _ _) in
+    let k = kept_refused _ _ c.open.ensures _ c.in_err-opened.was c.args.state (length c.args.out.now) c.args.out.now in
+    record { result_value = v; out_after = k; answers_or_refuses = values_demand _ _ _ _ v; values_exactly = values_shown _ _ _ _ _ v k }
 
-pub returns-in-Set : goal.returns-in-Set
-returns-in-Set c = record { result_value = search rules; out_after = search rules; answers_or_refuses = search (values_demand, rules); values_exactly = values_shown _ _ _ _ _ (search rules) (search rules) }
+pub returns : goal.returns
+returns c =
+    let v = rw c.index.ensures.words_value at c.values.ensures.result_value in
+    let k = rw c.index.ensures.words_value at c.values.ensures.out_after in
+    record { result_value = v; out_after = k; answers_or_refuses = values_demand _ _ _ _ v; values_exactly = values_shown _ _ _ _ _ v k }

@@ -1,8 +1,13 @@
-use Rattle.scr.proofs.Calling.{step_no_state, step_done}
+use Rattle.std.proofs.Common.{rules}
+use Rattle.scr.proofs.Indexing.{index_few}
+use Rattle.scr.proofs.Calling.{step_no_state, step_done, step_refused}
 use Rattle.scr.proofs.calls.step.Goals as goal
 
-pub returns-then-index-s : goal.returns-then-index-s
-returns-then-index-s c = search step_no_state
+pub returns-then-extent-s : goal.returns-then-extent-s
+returns-then-extent-s c = search step_no_state
 
-pub returns : goal.returns
-returns c = search step_done
+pub returns-in-Ok : goal.returns-in-Ok
+returns-in-Ok c = search step_done
+
+pub returns-in-Err : goal.returns-in-Err
+returns-in-Err c = search step_refused

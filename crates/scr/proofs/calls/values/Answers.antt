@@ -4,5 +4,5 @@ use Rattle.scr.proofs.calls.values.Goals as goal
 pub returns-then-out-n : goal.returns-then-out-n
 returns-then-out-n c = record { result_value = search count_room; out_after = search kept_room }
 
-pub returns-then-index-s : goal.returns-then-index-s
-returns-then-index-s c = record { result_value = search count_no_state; out_after = search kept_no_state }
+pub returns-then-extent-s : goal.returns-then-extent-s
+returns-then-extent-s c = record { result_value = search count_no_state; out_after = search kept_no_state }

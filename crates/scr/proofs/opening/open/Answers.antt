@@ -1,14 +1,12 @@
-use Rattle.scr.proofs.Opened.{reading_known, open_refused, open_cycle, open_set}
+use Rattle.std.proofs.Common.{rules}
+use Rattle.std.proofs.lemmas.Result.{err_from_is_err_and}
+use Rattle.scr.proofs.Reading.{open_refused, open_set}
 use Rattle.scr.proofs.opening.open.Goals as goal
 
-pub reading-requires : goal.reading-requires
-reading-requires c = search reading_known
+pub returns-in_err-extent : goal.returns-in_err-extent
+returns-in_err-extent c =
+    let p = err_from_is_err_and c.from_residual.result c.from_residual.ensures.1 in
+    rw p.1 (open_refused _ _ _ _ _ c.read_set.ensures _ c.in_err-extent.was _ p.2)
 
-pub returns-in-Refused : goal.returns-in-Refused
-returns-in-Refused c = search open_refused
-
-pub returns-in-Cycle : goal.returns-in-Cycle
-returns-in-Cycle c = search open_cycle
-
-pub returns-in-Set : goal.returns-in-Set
-returns-in-Set c = search open_set
+pub returns : goal.returns
+returns c = open_set _ _ _ _ _ c.read_set.ensures _ c.in_ok-extent.was

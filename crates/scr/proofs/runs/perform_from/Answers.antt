@@ -1,5 +1,5 @@
+use Rattle.std.proofs.Common.{rules}
 use Rattle.scr.proofs.Performing.{past_answer, past_kept, lent_back}
-use borrow.Author.Rules.{rules}
 use Rattle.scr.proofs.runs.perform_from.Goals as goal
 
 pub returns-then-trace-place : goal.returns-then-trace-place

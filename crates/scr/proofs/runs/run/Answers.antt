@@ -7,8 +7,8 @@ returns-then-events-gt-MAX_EVENTS c = record { result_value = search many_answer
 pub returns-then-room-events : goal.returns-then-room-events
 returns-then-room-events c = record { result_value = search short_answer; trace_after = search short_kept }
 
-pub returns-then-index-s : goal.returns-then-index-s
-returns-then-index-s c = record { result_value = search state_answer; trace_after = search state_kept }
+pub returns-then-extent-s : goal.returns-then-extent-s
+returns-then-extent-s c = record { result_value = search state_answer; trace_after = search state_kept }
 
 pub returns : goal.returns
 returns c = record { result_value = search run_answer; trace_after = search run_written }
