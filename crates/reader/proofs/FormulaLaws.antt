@@ -1,8 +1,11 @@
 -- Laws of read_condition, read_change and read_event, one for each way out.
-use Rattle.std.specs.Prelude.{◌≡◌, refl, Bool, true, false, not, List, ℕ, zero, suc, ◌+◌, ◌-◌, ◌≤◌, length, Result, Ok, Err}
+use Rattle.std.specs.Prelude.{◌≡◌, refl, Bool, true, false, not, List, ℕ, zero, suc, ◌+◌, ◌-◌, ◌≤◌, length, Result, Ok, Err, is_ok}
 use Rattle.std.proofs.Common.{sym, ap, ◌∙◌, sub-one, add-one, ne_eqb}
 use borrow.Author.Tests.{not-true, not-false}
 use Rattle.word.specs.Fields as W
+use Rattle.word.specs.Kinds.{IsChange}
+use Rattle.word.specs.declared.kinds.Change.{Change}
+use Rattle.word.specs.declared.kinds.Unnamed.{Unnamed}
 use Rattle.meaning.specs.Searches.{mem, within}
 use Rattle.meaning.specs.Syntax.{Variable}
 use Rattle.meaning.specs.Reading.{word, fits, test_ok, condition_kinds, event_kinds, condition_by, event_by, word_at, read_condition, read_event}
@@ -147,16 +150,17 @@ module _ (ws : List ℕ) (vs : List Variable) (n at : ℕ) where
         pub event_stop : (q : Fault) → a ≡ Err q → reached (Err q) ≡ reach (read_event ws vs n at)
         event_stop q an = two_events _ (then_stop a _ q an)
 
-      module _ (k s : ℕ) (b : Bool) (e2 : o ≡ 2) (ek : k ≡ W.kind w) (n7 : k ≡ 7 → ⊥) (es : s ≡ W.sort w) (eb : b ≡ within 1 2 s) where
+      module _ (k s : ℕ) (b : Bool) (e2 : o ≡ 2) (ek : k ≡ W.kind w) (n7 : k ≡ 7 → ⊥) (es : s ≡ W.sort w)
+          (c : Result Change Unnamed) (ec : IsChange s c) (eb : b ≡ is_ok c) where
         pub event_sort : b ≡ false → reached (Err (Range at)) ≡ reach (read_event ws vs n at)
-        unfolding event_by reach reached refusal carried
-        event_sort t = event_arm _ (rw (← eo, e2, ← ek, ne_eqb k 7 n7, ← es, ← eb, t))
+        unfolding event_by within reach reached refusal carried
+        event_sort t = event_arm _ (rw (← eo, e2, ← ek, ne_eqb k 7 n7, ← es, ← ec.0, ← eb, t))
 
         pub event_change : (r : Result ℕ Fault) → b ≡ true → reached r ≡ change_reach ws vs (n - 1) (at + 1) → reached r ≡ reach (read_event ws vs n at)
-        unfolding event_by change_reach
+        unfolding event_by within change_reach
         event_change r t er =
             event_arm _
-            (rw (← eo, e2, ← ek, ne_eqb k 7 n7, ← es, ← eb, t)
+            (rw (← eo, e2, ← ek, ne_eqb k 7 n7, ← es, ← ec.0, ← eb, t)
             (er ∙ rw (add-one at) (sym (two_reach (read_condition ws vs (n - 1) (suc at)) (read_condition ws vs (n - 1)) _))))
 
 pub ruleset events =

@@ -1,4 +1,5 @@
 pub mod Faults
+pub mod Headings
 pub mod Variables
 pub mod Formulas
 pub mod Tables

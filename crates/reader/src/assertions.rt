@@ -7,7 +7,7 @@ ghost use Rattle.reader.specs.Faults.{reached};
 
 use crate::faults::Fault;
 use crate::formulas::read_condition;
-use crate::tests::{fits_kind, test_word};
+use crate::tests::fits_kind;
 use index::{Variables, word_at};
 use word::{AssertionType, Kind, MAX_ASSERTIONS, MAX_DEPTH, sort};
 
@@ -19,9 +19,15 @@ fn read_assertion(set: &Variables, left: usize, at: usize) -> Result<usize, Faul
         return Err(Fault::Kind(at));
     }
     let w = word_at(set.words, at);
-    let fits = fits_kind(w, Kind::Assertion as u32);
-    let ranged = sort(w) == AssertionType::OfStates as u32;
-    test_word(at, fits, 0 < left, ranged, true)?;
+    if !fits_kind(w, Kind::Assertion) {
+        return Err(Fault::Kind(at));
+    }
+    if left == 0 {
+        return Err(Fault::Limit(at));
+    }
+    if AssertionType::try_from(sort(w)).is_err() {
+        return Err(Fault::Range(at));
+    }
     read_condition(set, at + 1, MAX_DEPTH)
 }
 

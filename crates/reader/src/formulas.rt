@@ -9,7 +9,7 @@ ghost use Rattle.reader.specs.Faults.{reached};
 ghost use Rattle.reader.specs.Formulas.{change_reach};
 
 use crate::faults::Fault;
-use crate::tests::{fits_condition, fits_event, test_ok, within};
+use crate::tests::{fits_condition, fits_event, test_ok};
 use index::{Variables, word_at};
 use word::{Change, Kind, kind, operands, sort, truth};
 
@@ -75,11 +75,7 @@ pub fn read_event(set: &Variables, at: usize, left: usize) -> Result<usize, Faul
                 let second = read_event(set, on, less)?;
                 return read_event(set, second, less);
             }
-            if within(
-                Change::BecomesTrue as u32,
-                Change::BecomesFalse as u32,
-                sort(w),
-            ) {
+            if Change::try_from(sort(w)).is_ok() {
                 return read_change(set, on, less);
             }
             return Err(Fault::Range(at));

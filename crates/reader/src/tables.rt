@@ -6,10 +6,11 @@ ghost use Rattle.reader.specs.Faults.{reached};
 ghost use Rattle.reader.specs.Tables.{next_place, read_places};
 
 use crate::faults::Fault;
-use crate::rows::{Heading, read_rows};
-use crate::tests::{fits_kind, table_fits, table_ok, test_word};
+use crate::headings::{heading_fits, read_heading};
+use crate::rows::read_rows;
+use crate::tests::fits_kind;
 use index::{Variables, word_at};
-use word::{Kind, class_read, defined, kind, sort};
+use word::{Kind, defined, kind};
 
 // A table with its rows, behind one for variable `before` (0 for none: no variable is lower). The set's places have, by variable, the place of
 // the first row of each table so far, 0 for none.
@@ -20,20 +21,17 @@ fn read_table(set: &Variables, at: usize, before: usize) -> Result<usize, Fault>
         return Err(Fault::Kind(at));
     }
     let w = word_at(set.words, at);
-    let fits = fits_kind(w, Kind::Table as u32);
-    let ranged = table_ok(set, at);
-    let suited = table_fits(set, at);
-    let v = defined(w) as usize;
-    let p = set.place_of(v);
-    test_word(at, fits, true, ranged, suited & (p == 0))?;
-    if v < before {
+    if !fits_kind(w, Kind::Table) {
+        return Err(Fault::Kind(at));
+    }
+    let heading = read_heading(set, at)?;
+    let free = set.place_of(heading.variable) == 0;
+    if !(heading_fits(set, heading) & free) {
+        return Err(Fault::Fit(at));
+    }
+    if heading.variable < before {
         return Err(Fault::Order(at));
     }
-    let heading = Heading {
-        table_type: sort(w),
-        variable: v,
-        class_read: class_read(w) as usize,
-    };
     read_rows(set, heading, at + 1)
 }
 

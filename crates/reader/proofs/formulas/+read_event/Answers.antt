@@ -17,8 +17,8 @@ returns-then-kind t c = search (events, c.in_ok-second-in-2.was)
 pub returns-in_err-second-in-2 : goal.returns-in_err-second-in-2
 returns-in_err-second-in-2 t c = rw (passed_on _ _ c.from_residual.ensures.1) (search (events, c.in_err-second-in-2.was))
 
-pub returns-then-within : goal.returns-then-within
-returns-then-within t c = search events
+pub returns-then-is_ok : goal.returns-then-is_ok
+returns-then-is_ok t c = search events
 
 pub returns-in-2 : goal.returns-in-2
 returns-in-2 t c = search events
