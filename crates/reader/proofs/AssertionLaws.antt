@@ -110,3 +110,5 @@ module _ (ws : List ℕ) (vs : List Variable) where
       → reach (read_assertions ws vs (Max.max_assertions - (i + 1)) j) ≡ reach (read_assertions ws vs Max.max_assertions at)
   assertions_on i on at j a e ea hl h inv =
       then_next a _ (reach (read_assertions ws vs (Max.max_assertions - (i + 1)) j)) j e refl ∙ turn i on at inv a h hl ea
+
+pub ruleset assertions_laws = (assertions_end, assertions_refused, assertions_on, assertions_over)

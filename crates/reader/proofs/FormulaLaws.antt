@@ -165,3 +165,5 @@ module _ (ws : List ℕ) (vs : List Variable) (n at : ℕ) where
 
 pub ruleset events =
     (event_past, event_bad, event_deep, event_never, event_true, event_both, event_stop, event_sort, event_change)
+
+pub ruleset change_laws = (change_both, change_stop)

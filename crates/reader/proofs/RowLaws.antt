@@ -185,3 +185,7 @@ module _ (ws : List ℕ) (vs : List Variable) (t v m : ℕ) where
       → rows_reach ws vs t v m (Max.max_rows - (i + 1)) j ≡ rows_reach ws vs t v m Max.max_rows at
   rows_on i on at j w k a e ea ew ek e3 h inv =
       then_next a _ (rows_reach ws vs t v m (Max.max_rows - (i + 1)) j) j e (rw (← ew, ← ek, e3)) ∙ rows_turn i on at h inv a ea
+
+pub ruleset formula_laws = (formula_condition, formula_event)
+
+pub ruleset rows_laws = (rows_refused, rows_end, rows_on, rows_over)

@@ -235,3 +235,5 @@ pub tables_kept : (ws p₀ ps : List ℕ) (n on before w v j x : ℕ) (a : Resul
     → variables_to ws (set ps v x) n ≡ variables_to ws p₀ n
 tables_kept ws p₀ ps n on before w v j x a ew ev ea e h kept =
     variables_kept ws ps n v x (store_in ws ps n on before w v j a ew ev ea e h) ∙ kept
+
+pub ruleset tables_laws = (tables_past, tables_end, tables_refused, tables_on, tables_last_refused, tables_over, tables_kept, store_fits)

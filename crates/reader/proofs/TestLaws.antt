@@ -37,11 +37,11 @@ pub kind_past : (ws : List ℕ) (i : ℕ) → length ws ≤ i → W.kind (word w
 unfolding W.kind
 kind_past ws i h = rw (← past_end ws i h)
 
-pub variable_fields : (w class n first : ℕ) (known sized : Bool) → class ≡ W.sort w → n ≡ W.size w → first ≡ W.initial w
-    → (r : Result Class Unnamed) → IsClass class r → known ≡ is_ok r → sized ≡ within Max.min_size Max.max_size n
-    → (((known && sized) && (not (eqb class 2) || leb n Max.max_modes)) && ltb first n) ≡ variable_ok w
+pub variable_fields : (w class n first : ℕ) (known : Bool) → class ≡ W.sort w → n ≡ W.size w → first ≡ W.initial w
+    → (r : Result Class Unnamed) → IsClass class r → known ≡ is_ok r
+    → (((known && (leb Max.min_size n && leb n Max.max_size)) && (not (eqb class 2) || leb n Max.max_modes)) && ltb first n) ≡ variable_ok w
 unfolding variable_ok within
-variable_fields w class n first known sized ec en ef r er ek es = rw (ek, er.0, es, ec, en, ef)
+variable_fields w class n first known ec en ef r er ek = rw (ek, er.0, ec, en, ef)
 
 module _ (ws ps : List ℕ) (n w : ℕ) where
   pub test_fields : (v how k values : ℕ) (related : Bool) → v ≡ W.variable w → how ≡ W.relation w → k ≡ W.value w
@@ -96,3 +96,7 @@ module _ (ws ps : List ℕ) (n : ℕ) (h : Heading) (class read : ℕ) (ec : cla
       → (leb 3 class && (eqb h.class_read Max.any || eqb read 2)) ≡ table_fits (variables_to ws ps n) w
   event_fits (inl e) = other_fits (rw e refl)
   event_fits (inr e) = other_fits (rw e refl)
+
+pub ruleset heading_laws = (heading_said, heading_ranged, heading_untyped)
+
+pub ruleset fit_laws = (mode_fits, event_fits)

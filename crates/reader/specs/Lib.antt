@@ -1,4 +1,5 @@
 pub mod Faults
+pub mod Known
 pub mod Headings
 pub mod Variables
 pub mod Formulas

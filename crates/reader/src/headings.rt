@@ -1,7 +1,7 @@
 // What a table word says to the reader of its rows.
 ghost use Rattle.std.specs.Prelude.{ℕ, ◌≡◌};
 ghost use Rattle.meaning.specs.Reading as R;
-ghost use Rattle.index.specs.Places.{variables_to};
+ghost use Rattle.reader.specs.Known.{known};
 ghost use Rattle.reader.specs.Headings.{HeadingAs, HeadingOf};
 
 use crate::faults::Fault;
@@ -17,8 +17,9 @@ pub struct Heading {
 }
 
 // The heading that the table word at `at` says, if its fields are in range.
+#[tactic(auto, using(crate::proofs::TestLaws::heading_laws))]
 pub fn read_heading(set: &Variables, at: usize) -> Result<Heading, Fault>
-    ensures { HeadingAs (variables_to set.now.words.now set.now.places.now set.now.count) (R.word set.now.words.now at) at result }
+    ensures { HeadingAs (known set.now) (R.word set.now.words.now at) at result }
 {
     let w = word_at(set.words, at);
     let v = defined(w) as usize;
@@ -39,8 +40,9 @@ pub fn read_heading(set: &Variables, at: usize) -> Result<Heading, Fault>
 }
 
 // Do its type and the class that it reads suit the variable that it defines?
+#[tactic(auto, using(crate::proofs::TestLaws::fit_laws))]
 pub fn heading_fits(set: &Variables, heading: Heading) -> bool
-    ensures { (w : ℕ) → HeadingOf w heading → result ≡ R.table_fits (variables_to set.now.words.now set.now.places.now set.now.count) w }
+    ensures { (w : ℕ) → HeadingOf w heading → result ≡ R.table_fits (known set.now) w }
 {
     let class = set.class_of(heading.variable);
     let read = set.class_of(heading.class_read);

@@ -2,7 +2,7 @@
 ghost use Rattle.std.specs.Prelude.{◌≡◌};
 ghost use Rattle.word.specs.Limits as Max;
 ghost use Rattle.word.specs.Kinds.{table_type_number};
-ghost use Rattle.index.specs.Places.{variables_to};
+ghost use Rattle.reader.specs.Known.{known};
 ghost use Rattle.reader.specs.Faults.{reached};
 ghost use Rattle.reader.specs.Formulas.{formula_reach, row_reach, rows_reach};
 
@@ -14,8 +14,9 @@ use index::{Variables, word_at};
 use word::{Kind, MAX_DEPTH, MAX_ROWS, TableType, kind};
 
 // The formula of a row.
+#[tactic(auto, using(crate::proofs::RowLaws::formula_laws))]
 fn read_formula(set: &Variables, table_type: TableType, at: usize) -> Result<usize, Fault>
-    ensures { reached result ≡ formula_reach set.now.words.now (variables_to set.now.words.now set.now.places.now set.now.count) (table_type_number table_type) at }
+    ensures { reached result ≡ formula_reach set.now.words.now (known set.now) (table_type_number table_type) at }
 {
     match table_type {
         TableType::Condition => read_condition(set, at, MAX_DEPTH),
@@ -24,8 +25,9 @@ fn read_formula(set: &Variables, table_type: TableType, at: usize) -> Result<usi
 }
 
 // A row with its formula; `left` rows may still stand, this one included.
+#[tactic(auto, using(crate::proofs::RowLaws::row_laws))]
 fn read_row(set: &Variables, heading: Heading, left: usize, at: usize) -> Result<usize, Fault>
-    ensures { reached result ≡ row_reach set.now.words.now (variables_to set.now.words.now set.now.places.now set.now.count) (table_type_number heading.table_type) heading.variable heading.class_read left at }
+    ensures { reached result ≡ row_reach set.now.words.now (known set.now) (table_type_number heading.table_type) heading.variable heading.class_read left at }
 {
     if set.words.len() <= at {
         return Err(Fault::Kind(at));
@@ -44,8 +46,9 @@ fn read_row(set: &Variables, heading: Heading, left: usize, at: usize) -> Result
 }
 
 // The rows of a table, to the first word that is no row. One row too many is read with none left, which refuses it.
+#[tactic(auto, using(crate::proofs::RowLaws::rows_laws))]
 pub fn read_rows(set: &Variables, heading: Heading, at: usize) -> Result<usize, Fault>
-    ensures { reached result ≡ rows_reach set.now.words.now (variables_to set.now.words.now set.now.places.now set.now.count) (table_type_number heading.table_type) heading.variable heading.class_read Max.max_rows at }
+    ensures { reached result ≡ rows_reach set.now.words.now (known set.now) (table_type_number heading.table_type) heading.variable heading.class_read Max.max_rows at }
 {
     let mut on = at;
     for i in 0..MAX_ROWS {

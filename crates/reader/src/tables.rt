@@ -1,6 +1,7 @@
 // Tables with their rows.
 ghost use Rattle.std.specs.Prelude.{◌≡◌, ◌≤◌, length};
 ghost use Rattle.word.specs.Limits as Max;
+ghost use Rattle.reader.specs.Known.{known};
 ghost use Rattle.index.specs.Places.{place_count, variables_to, reach, told};
 ghost use Rattle.reader.specs.Faults.{reached};
 ghost use Rattle.reader.specs.Tables.{next_place, read_places};
@@ -14,8 +15,9 @@ use word::{Kind, defined, kind};
 
 // A table with its rows, behind one for variable `before` (0 for none: no variable is lower). The set's places have, by variable, the place of
 // the first row of each table so far, 0 for none.
+#[tactic(auto, using(crate::proofs::TableLaws::table_laws))]
 fn read_table(set: &Variables, at: usize, before: usize) -> Result<usize, Fault>
-    ensures { reached result ≡ reach (next_place set.now.words.now (variables_to set.now.words.now set.now.places.now set.now.count) at set.now.places.now before) }
+    ensures { reached result ≡ reach (next_place set.now.words.now (known set.now) at set.now.places.now before) }
 {
     if set.words.len() <= at {
         return Err(Fault::Kind(at));
@@ -37,6 +39,7 @@ fn read_table(set: &Variables, at: usize, before: usize) -> Result<usize, Fault>
 
 // The tables from `at` on, in rising number of their variables. The place of each one's first row goes to the entry of the variable that it
 // defines. A variable has one table, so that there are n at most: one too many is refused for what is wrong with it, else by 5.
+#[tactic(auto, using(crate::proofs::TableLaws::tables_laws))]
 pub fn read_tables(words: &[u32], places: &mut [usize], n: usize, at: usize) -> Result<usize, Fault>
     requires { (length places.old ≡ place_count) × (n ≤ Max.max_variables) }
     ensures places_after { told (reached result) places.new ≡ read_places words.now (variables_to words.now places.old n) n at places.old 0 }

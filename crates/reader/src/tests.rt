@@ -1,9 +1,8 @@
 // Tests of one word. Of one word 2 is tested first, then 4, then 3, then 5; of a table word also 21, after those.
 ghost use Rattle.std.specs.Prelude.{◌≡◌, [], ◌∷◌};
 ghost use Rattle.word.specs.Kinds.{kind_number};
-ghost use Rattle.meaning.specs.Searches as S;
 ghost use Rattle.meaning.specs.Reading as R;
-ghost use Rattle.index.specs.Places.{variables_to};
+ghost use Rattle.reader.specs.Known.{known};
 
 use crate::headings::Heading;
 use index::Variables;
@@ -11,12 +10,6 @@ use word::{
     Class, EVERY_MODE, Kind, MAX_MODES, MAX_SIZE, MIN_SIZE, NO_CLASS, Relation, initial, kind,
     mode, relation, size, sort, spare_clear, value, variable,
 };
-
-pub fn within(low: u32, high: u32, a: u32) -> bool
-    ensures { result ≡ S.within low high a }
-{
-    (low <= a) & (a <= high)
-}
 
 // Has the word kind k, and are its spare bits zero?
 pub fn fits_kind(w: u32, k: Kind) -> bool
@@ -28,6 +21,7 @@ pub fn fits_kind(w: u32, k: Kind) -> bool
 }
 
 // Has the word a kind that a condition starts with, and are its spare bits zero?
+#[tactic(auto, using(crate::proofs::TestLaws::condition_kind))]
 pub fn fits_condition(w: u32) -> bool
     ensures { result ≡ R.fits R.condition_kinds w }
 {
@@ -39,6 +33,7 @@ pub fn fits_condition(w: u32) -> bool
         & clear
 }
 
+#[tactic(auto, using(crate::proofs::TestLaws::event_kind))]
 pub fn fits_event(w: u32) -> bool
     ensures { result ≡ R.fits R.event_kinds w }
 {
@@ -48,6 +43,7 @@ pub fn fits_event(w: u32) -> bool
 }
 
 // Are the fields of a variable word in range? A mode class has one value less, as 255 stands for every mode.
+#[tactic(auto, using(crate::proofs::TestLaws::variable_fields))]
 pub fn variable_ok(w: u32) -> bool
     ensures { result ≡ R.variable_ok w }
 {
@@ -55,13 +51,14 @@ pub fn variable_ok(w: u32) -> bool
     let n = size(w);
     let first = initial(w);
     let known = Class::try_from(class).is_ok();
-    let sized = within(MIN_SIZE, MAX_SIZE, n);
+    let sized = (MIN_SIZE <= n) & (n <= MAX_SIZE);
     ((known & sized) & ((class != Class::ModeClass as u32) | (n <= MAX_MODES))) & (first < n)
 }
 
 // Are the fields of a test word in range?
+#[tactic(auto, using(crate::proofs::TestLaws::test_fields))]
 pub fn test_ok(set: &Variables, w: u32) -> bool
-    ensures { result ≡ R.test_ok (variables_to set.now.words.now set.now.places.now set.now.count) w }
+    ensures { result ≡ R.test_ok (known set.now) w }
 {
     let v = variable(w) as usize;
     let related = Relation::try_from(relation(w)).is_ok();
@@ -71,8 +68,9 @@ pub fn test_ok(set: &Variables, w: u32) -> bool
 }
 
 // Are the fields of a row word in range, in the table with this heading?
+#[tactic(auto, using(crate::proofs::TestLaws::row_fields))]
 pub fn row_ok(set: &Variables, heading: Heading, w: u32) -> bool
-    ensures { result ≡ R.row_ok (variables_to set.now.words.now set.now.places.now set.now.count) heading.variable heading.class_read w }
+    ensures { result ≡ R.row_ok (known set.now) heading.variable heading.class_read w }
 {
     let r = mode(w);
     let k = value(w);
