@@ -84,21 +84,20 @@ module _ (ws : List ℕ) (vs : List Variable) (at : ℕ) (ps : List ℕ) (before
     pub table_unfit : not f ≡ true → reached (Err (Kind at)) ≡ reach (next_place ws vs at ps before)
     table_unfit e = unfit (fits (2 ∷ []) (word ws at)) true (table_ok vs (word ws at)) (table_fits vs (word ws at) && not (is_placed ps (W.defined (word ws at)))) at in_order (fitting false (not-true f e)) ∙ sym next_tested
 
-    module _ (fit : not f ≡ false) (a : Result Heading Fault) (ea : HeadingAs vs (word ws at) at a) where
+    module _ (fit : not f ≡ false) where
       fine_word : fits (2 ∷ []) (word ws at) ≡ true
       fine_word = fitting true (not-false f fit)
 
-      pub table_range : (q : Fault) → a ≡ Err q → reached (Err q) ≡ reach (next_place ws vs at ps before)
+      pub table_range : (q : Fault) → HeadingAs vs (word ws at) at (Err q) → reached (Err q) ≡ reach (next_place ws vs at ps before)
       unfolding HeadingAs
-      table_range q e =
-          let r = rw e at ea in
+      table_range q r =
           rw r.1 (out_of_range _ _ _ _ at in_order fine_word refl r.0 ∙ sym next_tested)
 
-      module _ (h : Heading) (eh : a ≡ Ok h) (p : ℕ) (ep : p ≡ get_or ps h.variable 0)
+      module _ (h : Heading) (eh : HeadingAs vs (word ws at) at (Ok h)) (p : ℕ) (ep : p ≡ get_or ps h.variable 0)
           (s : Bool) (es : (x : ℕ) → HeadingOf x h → s ≡ table_fits vs x) where
         ranged : (table_ok vs (word ws at) ≡ true) × HeadingOf (word ws at) h
         unfolding HeadingAs
-        ranged = rw eh at ea
+        ranged = eh
 
         suited : (b : Bool) → (s && eqb p 0) ≡ b → (table_fits vs (word ws at) && not (is_placed ps (W.defined (word ws at)))) ≡ b
         unfolding is_placed
@@ -141,22 +140,18 @@ module _ (ws : List ℕ) (vs : List Variable) (at : ℕ) (taken lower : Bool) (j
   table_below : reach (read_table ws vs at taken lower) ≡ Next j → W.defined (word ws at) < length vs
   table_below h = defined_below vs (word ws at) (not_in_range _ _ refl refl h)
 
-reached_next : (a : Result ℕ Fault) (j : ℕ) → a ≡ Ok j → reached a ≡ Next j
-unfolding reached
-reached_next a j e = rw e
-
-pub store_in : (ws ps : List ℕ) (n on before w v j : ℕ) (a : Result ℕ Fault) → w ≡ word ws on → v ≡ W.defined w
-    → reached a ≡ reach (next_place ws (variables_to ws ps n) on ps before) → a ≡ Ok j
+pub store_in : (ws ps : List ℕ) (n on before w v j : ℕ) → w ≡ word ws on → v ≡ W.defined w
+    → reached (Ok j) ≡ reach (next_place ws (variables_to ws ps n) on ps before)
     → n ≤ Max.max_variables → v < Max.max_variables
-unfolding next_place
-store_in ws ps n on before w v j a ew ev ea e h =
-    let b : W.defined (word ws on) < n = rw (variables_length ws ps n) at (table_below ws (variables_to ws ps n) on _ _ j (sym ea ∙ reached_next a j e)) in
+unfolding next_place reached
+store_in ws ps n on before w v j ew ev ea h =
+    let b : W.defined (word ws on) < n = rw (variables_length ws ps n) at (table_below ws (variables_to ws ps n) on _ _ j (sym ea)) in
     rw (ev, ew) (omega arith)
 
-pub store_fits : (ws ps : List ℕ) (n on before w v j : ℕ) (a : Result ℕ Fault) → w ≡ word ws on → v ≡ W.defined w
-    → reached a ≡ reach (next_place ws (variables_to ws ps n) on ps before) → a ≡ Ok j
+pub store_fits : (ws ps : List ℕ) (n on before w v j : ℕ) → w ≡ word ws on → v ≡ W.defined w
+    → reached (Ok j) ≡ reach (next_place ws (variables_to ws ps n) on ps before)
     → n ≤ Max.max_variables → length ps ≡ place_count → v < length ps
-store_fits ws ps n on before w v j a ew ev ea e h l = let b = store_in ws ps n on before w v j a ew ev ea e h in rw l (omega arith)
+store_fits ws ps n on before w v j ew ev ea h l = let b = store_in ws ps n on before w v j ew ev ea h in rw l (omega arith)
 
 -- ---- the tables: what is left to read from here is the whole reading
 abbrev on_reach : {A : Type 0} → Reached → (ℕ → Parse A) → Parse A
@@ -199,41 +194,41 @@ module _ (ws p₀ ps : List ℕ) (n i on before : ℕ) (all : Read (List ℕ)) (
     unfolding told reached
     tables_end nk = sym (tables_ended ws (variables_to ws p₀ n) (n - i) on ps before (rw (← ew, ← ek) (ne_eqb k 2 nk))) ∙ inv
 
-    module _ (e2 : k ≡ 2) (a : Result ℕ Fault) (kept : variables_to ws ps n ≡ variables_to ws p₀ n)
-        (ea : reached a ≡ reach (next_place ws (variables_to ws ps n) on ps before)) where
-      turn : i < n → on_reach (reached a) (λ j. read_places ws (variables_to ws p₀ n) (n - (i + 1)) j (set ps (W.defined (word ws on)) (suc on)) (W.defined (word ws on))) ≡ all
-      turn h =
+    module _ (e2 : k ≡ 2) (kept : variables_to ws ps n ≡ variables_to ws p₀ n) where
+      turn : (r : Reached) → r ≡ reach (next_place ws (variables_to ws ps n) on ps before)
+          → i < n → on_reach r (λ j. read_places ws (variables_to ws p₀ n) (n - (i + 1)) j (set ps (W.defined (word ws on)) (suc on)) (W.defined (word ws on))) ≡ all
+      turn r ea h =
           rw (ea, kept)
           (sym (tables_step ws (variables_to ws p₀ n) (n - (i + 1)) on ps before (rw (← ew, ← ek) (eq-eqb k 2 e2))) ∙ (rw (left n i h) at inv))
 
-      last : n ≤ i → on_reach (reached a) (λ j. stop 5 on) ≡ all
-      last h =
+      last : (r : Reached) → r ≡ reach (next_place ws (variables_to ws ps n) on ps before) → n ≤ i → on_reach r (λ j. stop 5 on) ≡ all
+      last r ea h =
           let z : n - i ≡ 0 = omega arith in
           rw (ea, kept) (sym (tables_last ws (variables_to ws p₀ n) on ps before (rw (← ew, ← ek) (eq-eqb k 2 e2))) ∙ (rw z at inv))
 
-      pub tables_refused : (q : Fault) → i < n → a ≡ Err q → told (reached (Err q)) ps ≡ all
+      pub tables_refused : (q : Fault) → reached (Err q) ≡ reach (next_place ws (variables_to ws ps n) on ps before) → i < n → told (reached (Err q)) ps ≡ all
       unfolding told reached
-      tables_refused q h e = rw e at (turn h)
+      tables_refused q ea h = turn _ ea h
 
-      pub tables_on : (v j : ℕ) → i < n → a ≡ Ok j → v ≡ W.defined w
+      pub tables_on : (v j : ℕ) → reached (Ok j) ≡ reach (next_place ws (variables_to ws ps n) on ps before) → i < n → v ≡ W.defined w
           → read_places ws (variables_to ws p₀ n) (n - (i + 1)) j (set ps v (on + 1)) v ≡ all
       unfolding reached
-      tables_on v j h e ev = rw (ev, ew, add-one on) (rw e at (turn h))
+      tables_on v j ea h ev = rw (ev, ew, add-one on) (turn _ ea h)
 
-      pub tables_over : (j : ℕ) → n ≤ i → a ≡ Ok j → told (reached (Err (Fit on))) ps ≡ all
+      pub tables_over : (j : ℕ) → reached (Ok j) ≡ reach (next_place ws (variables_to ws ps n) on ps before) → n ≤ i → told (reached (Err (Fit on))) ps ≡ all
       unfolding told reached refusal carried
-      tables_over j h e = rw e at (last h)
+      tables_over j ea h = last _ ea h
 
-      pub tables_last_refused : (q : Fault) → n ≤ i → a ≡ Err q → told (reached (Err q)) ps ≡ all
+      pub tables_last_refused : (q : Fault) → reached (Err q) ≡ reach (next_place ws (variables_to ws ps n) on ps before) → n ≤ i → told (reached (Err q)) ps ≡ all
       unfolding told reached
-      tables_last_refused q h e = rw e at (last h)
+      tables_last_refused q ea h = last _ ea h
 
 -- the place of a table is no place of a word
-pub tables_kept : (ws p₀ ps : List ℕ) (n on before w v j x : ℕ) (a : Result ℕ Fault) → w ≡ word ws on → v ≡ W.defined w
-    → reached a ≡ reach (next_place ws (variables_to ws ps n) on ps before) → a ≡ Ok j
+pub tables_kept : (ws p₀ ps : List ℕ) (n on before w v j x : ℕ) → w ≡ word ws on → v ≡ W.defined w
+    → reached (Ok j) ≡ reach (next_place ws (variables_to ws ps n) on ps before)
     → n ≤ Max.max_variables → variables_to ws ps n ≡ variables_to ws p₀ n
     → variables_to ws (set ps v x) n ≡ variables_to ws p₀ n
-tables_kept ws p₀ ps n on before w v j x a ew ev ea e h kept =
-    variables_kept ws ps n v x (store_in ws ps n on before w v j a ew ev ea e h) ∙ kept
+tables_kept ws p₀ ps n on before w v j x ew ev ea h kept =
+    variables_kept ws ps n v x (store_in ws ps n on before w v j ew ev ea h) ∙ kept
 
 pub ruleset tables_laws = (tables_past, tables_end, tables_refused, tables_on, tables_last_refused, tables_over, tables_kept, store_fits)
