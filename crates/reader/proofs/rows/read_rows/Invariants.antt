@@ -1,5 +1,4 @@
-use mathlib.Core.Path.{◌≡◌}
-use Prim.Native.Nat.{◌≤◌, ◌-◌}
+use Rattle.std.specs.Prelude.{◌≡◌, ◌≤◌, ◌-◌}
 use Rattle.word.specs.Limits as Max
 use Rattle.word.specs.Kinds.{table_type_number}
 use Rattle.index.specs.Places.{variables_to}
