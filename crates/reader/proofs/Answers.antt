@@ -1,5 +1,5 @@
 -- Laws of answers: one reading after another, with what was read forgotten.
-use Rattle.std.specs.Prelude.{ℕ, ◌≡◌, refl, Result, Ok, Err, IsErrAnd}
+use Rattle.std.specs.Prelude.{ℕ, ◌≡◌, refl, Result, Ok, Err}
 use Rattle.std.proofs.Common.{sym, ap, arith}
 use Rattle.meaning.specs.Answers.{fine, stop, ◌>>>◌}
 use Rattle.meaning.specs.Reading.{Read}
@@ -22,11 +22,6 @@ made_reach (stop k i) f = refl
 pub two_reach : {A B C : Type 0} (m : Read A) (g : ℕ → Read B) (f : A × ℕ → B × ℕ → C)
     → reach (m >>> λ p. g p.1 >>> λ q. fine (f p q, q.1)) ≡ then_at (reach m) (λ j. reach (g j))
 two_reach m g f = then_reach m _ (λ j. reach (g j)) (λ p. made_reach (g p.1) (f p))
-
--- an error that is passed on is the one that it was
-pub passed_on : {A : Type 0} (r : Result A Fault) (q : Fault) → IsErrAnd r (λ f. f ≡ q) → r ≡ Err q
-passed_on (Ok x) q h = absurd h
-passed_on (Err f) q h = ap (λ (e : Fault). Err e) h
 
 -- an answer of the code, and what comes after it
 pub then_next : (r : Result ℕ Fault) (f : ℕ → Reached) (b : Reached) (j : ℕ) → r ≡ Ok j → b ≡ f j → b ≡ then_at (reached r) f

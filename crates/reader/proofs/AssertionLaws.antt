@@ -1,54 +1,66 @@
 -- Laws of read_assertion and read_assertions, one for each way out.
-use Rattle.std.specs.Prelude.{◌≡◌, refl, Bool, true, false, List, [], ◌∷◌, ℕ, zero, suc, ◌+◌, ◌-◌, ◌≤◌, ◌<◌, eqb, leb, ltb, length, Result, Ok, Err}
+use Rattle.std.specs.Prelude.{◌≡◌, refl, Bool, true, false, not, List, [], ◌∷◌, ℕ, zero, suc, ◌+◌, ◌-◌, ◌≤◌, ◌<◌, eqb, leb, ltb, length, Result, Ok, Err, is_ok}
 use Rattle.std.proofs.Common.{sym, ap, ◌∙◌, arith, add-one, le-leb}
-use borrow.Author.Tests.{lt-leb}
+use borrow.Author.Tests.{lt-leb, not-true, not-false}
 use Rattle.word.specs.Fields as W
+use Rattle.word.specs.Kinds.{IsAssertionType}
+use Rattle.word.specs.declared.kinds.AssertionType.{AssertionType}
+use Rattle.word.specs.declared.kinds.Unnamed.{Unnamed}
 use Rattle.word.specs.Limits as Max
-use Rattle.meaning.specs.Answers.{Parse}
 use Rattle.meaning.specs.Searches.{mem}
 use Rattle.meaning.specs.Syntax.{Variable}
 use Rattle.meaning.specs.Reading.{word, fits, read_condition, read_assertion, read_assertions}
 use Rattle.theory.specs.Loops.{left}
 use Rattle.index.specs.Places.{Next, reach, then_at}
 use Rattle.reader.specs.declared.faults.Fault.{Fault}
-use Rattle.reader.specs.declared.faults.Fault.TheVariants.{Kind}
-use Rattle.reader.specs.Faults.{refusal, carried, reached, tested, word_tests}
+use Rattle.reader.specs.declared.faults.Fault.TheVariants.{Kind, Range, Limit}
+use Rattle.reader.specs.Faults.{reached}
 use Rattle.reader.proofs.TestLaws.{kind_past}
 use Rattle.reader.proofs.Answers.{made_reach, two_reach, then_next, then_stop}
 use Rattle.theory.specs.Readers.{word_then}
-use Rattle.reader.proofs.WordLaws.{tested_then, tested_refused, tested_passed}
+use Rattle.reader.proofs.WordLaws.{tested, unfit, no_room, out_of_range, passed, above_zero}
 
 -- ---- an assertion
 module _ (ws : List ℕ) (vs : List Variable) (l at : ℕ) where
   assertion_tested : reach (read_assertion ws vs l at)
-      ≡ reach (tested_then (fits (10 ∷ []) (word ws at)) (ltb 0 l) (eqb (W.sort (word ws at)) 1) true at (read_condition ws vs Max.max_depth (suc at)))
+      ≡ reach (tested (fits (10 ∷ []) (word ws at)) (ltb 0 l) (eqb (W.sort (word ws at)) 1) true at (read_condition ws vs Max.max_depth (suc at)))
   unfolding read_assertion
   assertion_tested = ap reach (word_then ws (10 ∷ []) at _)
 
-  -- the tests of its word
-  abbrev assertion_tests : Parse (Unit {0})
-  assertion_tests = word_tests (fits (10 ∷ []) (word ws at)) (ltb 0 l) (eqb (W.sort (word ws at)) 1) true at
-
-  refused : (q : Fault) → tested (Err q) ≡ assertion_tests → reached (Err q) ≡ reach (read_assertion ws vs l at)
-  refused q e = tested_refused _ _ _ _ at _ q e ∙ sym assertion_tested
-
-  passed : (u : Unit {0}) → tested (Ok u) ≡ assertion_tests → reach (read_condition ws vs Max.max_depth (suc at)) ≡ reach (read_assertion ws vs l at)
-  passed u e = tested_passed _ _ _ _ at _ u e ∙ sym assertion_tested
-
   pub assertion_past : length ws ≤ at → reached (Err (Kind at)) ≡ reach (read_assertion ws vs l at)
-  unfolding fits mem tested refusal carried word_tests
-  assertion_past h = refused (Kind at) (rw (kind_past ws at h))
+  unfolding fits mem
+  assertion_past h = let e : fits (10 ∷ []) (word ws at) ≡ false = rw (kind_past ws at h) in unfit (fits (10 ∷ []) (word ws at)) (ltb 0 l) (eqb (W.sort (word ws at)) 1) true at (read_condition ws vs Max.max_depth (suc at)) e ∙ sym assertion_tested
 
-  module _ (w s : ℕ) (f : Bool) (ew : w ≡ word ws at) (ef : f ≡ fits (10 ∷ []) w) (es : s ≡ W.sort w)
-      (t : Result (Unit {0}) Fault) (et : tested t ≡ word_tests f (ltb 0 l) (eqb s 1) true at) where
-    pub assertion_fault : (q : Fault) → t ≡ Err q → reached (Err q) ≡ reach (read_assertion ws vs l at)
-    assertion_fault q e = refused q (rw (← ew, ← ef, ← es, ← e) et)
+  module _ (w : ℕ) (f : Bool) (ew : w ≡ word ws at) (ef : f ≡ fits (10 ∷ []) w) where
+    fitting : (b : Bool) → f ≡ b → fits (10 ∷ []) (word ws at) ≡ b
+    fitting b e = rw (← ew, ← ef) e
 
-    pub assertion_on : (u : Unit {0}) (r : Result ℕ Fault) → t ≡ Ok u → reached r ≡ reach (read_condition ws vs Max.max_depth (at + 1))
-        → reached r ≡ reach (read_assertion ws vs l at)
-    assertion_on u r e er = er ∙ rw (add-one at) (passed u (rw (← ew, ← ef, ← es, ← e) et))
+    pub assertion_unfit : not f ≡ true → reached (Err (Kind at)) ≡ reach (read_assertion ws vs l at)
+    assertion_unfit e = unfit (fits (10 ∷ []) (word ws at)) (ltb 0 l) (eqb (W.sort (word ws at)) 1) true at (read_condition ws vs Max.max_depth (suc at)) (fitting false (not-true f e)) ∙ sym assertion_tested
 
-pub ruleset assertion_laws = (assertion_past, assertion_fault, assertion_on)
+    module _ (fit : not f ≡ false) where
+      pub assertion_over : l ≡ 0 → reached (Err (Limit at)) ≡ reach (read_assertion ws vs l at)
+      assertion_over z = let e : ltb 0 l ≡ false = rw z in no_room (fits (10 ∷ []) (word ws at)) (ltb 0 l) (eqb (W.sort (word ws at)) 1) true at (read_condition ws vs Max.max_depth (suc at)) (fitting true (not-false f fit)) e ∙ sym assertion_tested
+
+      -- whether its type has a name
+      module _ (nz : l ≡ 0 → ⊥) (s : ℕ) (es : s ≡ W.sort w) (a : Result AssertionType Unnamed) (ea : IsAssertionType s a)
+          (b : Bool) (eb : is_ok a ≡ not b) where
+        typed : (c : Bool) → not b ≡ c → eqb (W.sort (word ws at)) 1 ≡ c
+        typed c e = rw (← ew, ← es) (sym ea.0 ∙ eb ∙ e)
+
+        pub assertion_range : b ≡ true → reached (Err (Range at)) ≡ reach (read_assertion ws vs l at)
+        assertion_range e =
+            let n : not b ≡ false = rw e in
+            out_of_range _ _ _ true at _ (fitting true (not-false f fit)) (above_zero l nz) (typed false n) ∙ sym assertion_tested
+
+        pub assertion_on : (r : Result ℕ Fault) → b ≡ false → reached r ≡ reach (read_condition ws vs Max.max_depth (at + 1))
+            → reached r ≡ reach (read_assertion ws vs l at)
+        assertion_on r e er =
+            let n : not b ≡ true = rw e in
+            er ∙ rw (add-one at) (passed _ _ _ true at _ (fitting true (not-false f fit)) (above_zero l nz) (typed true n) refl)
+            ∙ sym assertion_tested
+
+pub ruleset assertion_laws = (assertion_past, assertion_unfit, assertion_over, assertion_range, assertion_on)
 
 -- ---- the assertions: what is left to read from here is the whole reading
 module _ (ws : List ℕ) (vs : List Variable) where
@@ -98,3 +110,5 @@ module _ (ws : List ℕ) (vs : List Variable) where
       → reach (read_assertions ws vs (Max.max_assertions - (i + 1)) j) ≡ reach (read_assertions ws vs Max.max_assertions at)
   assertions_on i on at j a e ea hl h inv =
       then_next a _ (reach (read_assertions ws vs (Max.max_assertions - (i + 1)) j)) j e refl ∙ turn i on at inv a h hl ea
+
+pub ruleset assertions_laws = (assertions_end, assertions_refused, assertions_on, assertions_over)

@@ -1,8 +1,11 @@
 -- Laws of read_condition, read_change and read_event, one for each way out.
-use Rattle.std.specs.Prelude.{◌≡◌, refl, Bool, true, false, not, List, ℕ, zero, suc, ◌+◌, ◌-◌, ◌≤◌, length, Result, Ok, Err}
+use Rattle.std.specs.Prelude.{◌≡◌, refl, Bool, true, false, not, List, ℕ, zero, suc, ◌+◌, ◌-◌, ◌≤◌, length, Result, Ok, Err, is_ok}
 use Rattle.std.proofs.Common.{sym, ap, ◌∙◌, sub-one, add-one, ne_eqb}
 use borrow.Author.Tests.{not-true, not-false}
 use Rattle.word.specs.Fields as W
+use Rattle.word.specs.Kinds.{IsChange}
+use Rattle.word.specs.declared.kinds.Change.{Change}
+use Rattle.word.specs.declared.kinds.Unnamed.{Unnamed}
 use Rattle.meaning.specs.Searches.{mem, within}
 use Rattle.meaning.specs.Syntax.{Variable}
 use Rattle.meaning.specs.Reading.{word, fits, test_ok, condition_kinds, event_kinds, condition_by, event_by, word_at, read_condition, read_event}
@@ -65,33 +68,34 @@ module _ (ws : List ℕ) (vs : List Variable) (n at : ℕ) where
       condition_not a e1 ea =
           arm _ (rw (← eo, e1) (ea ∙ rw (add-one at) (sym (made_reach (read_condition ws vs (n - 1) (suc at)) _))))
 
-      module _ (e2 : o ≡ 2) (a : Result ℕ Fault) (ea : reached a ≡ reach (read_condition ws vs (n - 1) (at + 1))) where
-        two : (r : Reached) → r ≡ then_at (reached a) (λ j. reach (read_condition ws vs (n - 1) j)) → r ≡ reach (read_condition ws vs n at)
+      module _ (e2 : o ≡ 2) where
+        two : (a : Result ℕ Fault) → reached a ≡ reach (read_condition ws vs (n - 1) (at + 1)) → (r : Reached) → r ≡ then_at (reached a) (λ j. reach (read_condition ws vs (n - 1) j)) → r ≡ reach (read_condition ws vs n at)
         unfolding condition_by
-        two r er =
+        two a ea r er =
             arm r
             (rw (← eo, e2)
             (er ∙ rw (ea, add-one at) (sym (two_reach (read_condition ws vs (n - 1) (suc at)) (read_condition ws vs (n - 1)) _))))
 
-        pub condition_both : (b : Result ℕ Fault) (j : ℕ) → a ≡ Ok j → reached b ≡ reach (read_condition ws vs (n - 1) j)
+        pub condition_both : (b : Result ℕ Fault) (j : ℕ) → reached (Ok j) ≡ reach (read_condition ws vs (n - 1) (at + 1)) → reached b ≡ reach (read_condition ws vs (n - 1) j)
             → reached b ≡ reach (read_condition ws vs n at)
-        condition_both b j an eb = two _ (then_next a _ _ j an eb)
+        condition_both b j ea eb = two (Ok j) ea _ (then_next (Ok j) _ _ j refl eb)
 
-        pub condition_stop : (q : Fault) → a ≡ Err q → reached (Err q) ≡ reach (read_condition ws vs n at)
-        condition_stop q an = two _ (then_stop a _ q an)
+        pub condition_stop : (q : Fault) → reached (Err q) ≡ reach (read_condition ws vs (n - 1) (at + 1)) → reached (Err q) ≡ reach (read_condition ws vs n at)
+        condition_stop q ea = two (Err q) ea _ (then_stop (Err q) _ q refl)
 
 pub ruleset conditions =
     (condition_past, condition_bad, condition_deep, condition_test, condition_range, condition_constant, condition_not, condition_both, condition_stop)
 
 -- ---- the two conditions of a change
-module _ (ws : List ℕ) (vs : List Variable) (n at : ℕ) (a : Result ℕ Fault) (ea : reached a ≡ reach (read_condition ws vs n at)) where
-  pub change_both : (b : Result ℕ Fault) (j : ℕ) → a ≡ Ok j → reached b ≡ reach (read_condition ws vs n j) → reached b ≡ change_reach ws vs n at
+module _ (ws : List ℕ) (vs : List Variable) (n at : ℕ) where
+  pub change_both : (b : Result ℕ Fault) (j : ℕ) → reached (Ok j) ≡ reach (read_condition ws vs n at) → reached b ≡ reach (read_condition ws vs n j)
+      → reached b ≡ change_reach ws vs n at
   unfolding change_reach
-  change_both b j an eb = rw (← ea) (then_next a _ _ j an eb)
+  change_both b j ea eb = rw (← ea) (then_next (Ok j) _ _ j refl eb)
 
-  pub change_stop : (q : Fault) → a ≡ Err q → reached (Err q) ≡ change_reach ws vs n at
+  pub change_stop : (q : Fault) → reached (Err q) ≡ reach (read_condition ws vs n at) → reached (Err q) ≡ change_reach ws vs n at
   unfolding change_reach
-  change_stop q an = rw (← ea) (then_stop a _ q an)
+  change_stop q ea = rw (← ea) (then_stop (Err q) _ q refl)
 
 -- ---- events
 event_unfit : (ws : List ℕ) (vs : List Variable) (n at : ℕ) → fits event_kinds (word ws at) ≡ false
@@ -133,31 +137,34 @@ module _ (ws : List ℕ) (vs : List Variable) (n at : ℕ) where
       unfolding event_by reach reached refusal carried
       event_true v n2 ev z = event_arm _ (rw (← eo, ne_eqb o 2 n2, ← ev, ne_eqb v 0 z))
 
-      module _ (k : ℕ) (e2 : o ≡ 2) (ek : k ≡ W.kind w) (e7 : k ≡ 7) (a : Result ℕ Fault) (ea : reached a ≡ reach (read_event ws vs (n - 1) (at + 1))) where
-        two_events : (r : Reached) → r ≡ then_at (reached a) (λ j. reach (read_event ws vs (n - 1) j)) → r ≡ reach (read_event ws vs n at)
+      module _ (k : ℕ) (e2 : o ≡ 2) (ek : k ≡ W.kind w) (e7 : k ≡ 7) where
+        two_events : (a : Result ℕ Fault) → reached a ≡ reach (read_event ws vs (n - 1) (at + 1)) → (r : Reached) → r ≡ then_at (reached a) (λ j. reach (read_event ws vs (n - 1) j)) → r ≡ reach (read_event ws vs n at)
         unfolding event_by
-        two_events r er =
+        two_events a ea r er =
             event_arm r
             (rw (← eo, e2, ← ek, e7) (er ∙ rw (ea, add-one at) (sym (two_reach (read_event ws vs (n - 1) (suc at)) (read_event ws vs (n - 1)) _))))
 
-        pub event_both : (b : Result ℕ Fault) (j : ℕ) → a ≡ Ok j → reached b ≡ reach (read_event ws vs (n - 1) j)
+        pub event_both : (b : Result ℕ Fault) (j : ℕ) → reached (Ok j) ≡ reach (read_event ws vs (n - 1) (at + 1)) → reached b ≡ reach (read_event ws vs (n - 1) j)
             → reached b ≡ reach (read_event ws vs n at)
-        event_both b j an eb = two_events _ (then_next a _ _ j an eb)
+        event_both b j ea eb = two_events (Ok j) ea _ (then_next (Ok j) _ _ j refl eb)
 
-        pub event_stop : (q : Fault) → a ≡ Err q → reached (Err q) ≡ reach (read_event ws vs n at)
-        event_stop q an = two_events _ (then_stop a _ q an)
+        pub event_stop : (q : Fault) → reached (Err q) ≡ reach (read_event ws vs (n - 1) (at + 1)) → reached (Err q) ≡ reach (read_event ws vs n at)
+        event_stop q ea = two_events (Err q) ea _ (then_stop (Err q) _ q refl)
 
-      module _ (k s : ℕ) (b : Bool) (e2 : o ≡ 2) (ek : k ≡ W.kind w) (n7 : k ≡ 7 → ⊥) (es : s ≡ W.sort w) (eb : b ≡ within 1 2 s) where
+      module _ (k s : ℕ) (b : Bool) (e2 : o ≡ 2) (ek : k ≡ W.kind w) (n7 : k ≡ 7 → ⊥) (es : s ≡ W.sort w)
+          (c : Result Change Unnamed) (ec : IsChange s c) (eb : b ≡ is_ok c) where
         pub event_sort : b ≡ false → reached (Err (Range at)) ≡ reach (read_event ws vs n at)
-        unfolding event_by reach reached refusal carried
-        event_sort t = event_arm _ (rw (← eo, e2, ← ek, ne_eqb k 7 n7, ← es, ← eb, t))
+        unfolding event_by within reach reached refusal carried
+        event_sort t = event_arm _ (rw (← eo, e2, ← ek, ne_eqb k 7 n7, ← es, ← ec.0, ← eb, t))
 
         pub event_change : (r : Result ℕ Fault) → b ≡ true → reached r ≡ change_reach ws vs (n - 1) (at + 1) → reached r ≡ reach (read_event ws vs n at)
-        unfolding event_by change_reach
+        unfolding event_by within change_reach
         event_change r t er =
             event_arm _
-            (rw (← eo, e2, ← ek, ne_eqb k 7 n7, ← es, ← eb, t)
+            (rw (← eo, e2, ← ek, ne_eqb k 7 n7, ← es, ← ec.0, ← eb, t)
             (er ∙ rw (add-one at) (sym (two_reach (read_condition ws vs (n - 1) (suc at)) (read_condition ws vs (n - 1)) _))))
 
 pub ruleset events =
     (event_past, event_bad, event_deep, event_never, event_true, event_both, event_stop, event_sort, event_change)
+
+pub ruleset change_laws = (change_both, change_stop)

@@ -1,32 +1,37 @@
 -- Laws of read_formula, read_row and read_rows, one for each way out.
-use Rattle.std.specs.Prelude.{◌≡◌, refl, Bool, true, false, List, [], ◌∷◌, ℕ, suc, ◌+◌, ◌-◌, ◌≤◌, ◌<◌, eqb, ltb, length, Result, Ok, Err}
-use Rattle.std.proofs.Common.{sym, ap, ◌∙◌, arith, add-one, ne_eqb}
+use Rattle.std.specs.Prelude.{◌≡◌, refl, Bool, true, false, not, List, [], ◌∷◌, ℕ, suc, ◌+◌, ◌-◌, ◌≤◌, ◌<◌, eqb, ltb, length, Result, Ok, Err, ◌⊎◌}
+use Rattle.std.proofs.Common.{inl, inr, sym, ap, ◌∙◌, arith, add-one, ne_eqb}
+use borrow.Author.Tests.{not-true, not-false}
 use Rattle.word.specs.Fields as W
+use Rattle.word.specs.Kinds.{table_type_number}
+use Rattle.word.specs.declared.kinds.TableType.{TableType}
+use Rattle.word.specs.declared.kinds.TableType.TheVariants as T
 use Rattle.word.specs.Limits as Max
-use Rattle.meaning.specs.Answers.{Parse, fine, ◌>>>◌, if◌give◌else◌}
+use Rattle.meaning.specs.Answers.{fine, ◌>>>◌, if◌give◌else◌}
 use Rattle.meaning.specs.Searches.{mem}
 use Rattle.meaning.specs.Syntax.{Condition, Event, Variable, Row}
 use Rattle.meaning.specs.Reading.{Read, word, fits, row_ok, row_of, rows_by, read_condition, read_event, read_row, read_rows}
 use Rattle.theory.specs.Loops.{left}
 use Rattle.index.specs.Places.{Reached, Next, reach, then_at}
 use Rattle.reader.specs.declared.faults.Fault.{Fault}
-use Rattle.reader.specs.declared.faults.Fault.TheVariants.{Kind}
-use Rattle.reader.specs.Faults.{refusal, carried, reached, tested, word_tests}
+use Rattle.reader.specs.declared.faults.Fault.TheVariants.{Kind, Range, Limit}
+use Rattle.reader.specs.Faults.{reached}
 use Rattle.reader.specs.Formulas.{by_type, formula_reach, row_reach, rows_reach}
 use Rattle.reader.proofs.TestLaws.{kind_past}
 use Rattle.reader.proofs.Answers.{then_reach, made_reach, then_next, then_stop}
 use Rattle.theory.specs.Readers.{word_then}
-use Rattle.reader.proofs.WordLaws.{tested_then, tested_refused, tested_passed}
+use Rattle.reader.proofs.WordLaws.{tested, unfit, no_room, out_of_range, passed, above_zero}
 
 -- ---- the formula of a row
-module _ (ws : List ℕ) (vs : List Variable) (t at : ℕ) (r : Result ℕ Fault) where
-  pub formula_condition : t ≡ 3 → reached r ≡ reach (read_condition ws vs Max.max_depth at) → reached r ≡ formula_reach ws vs t at
+module _ (ws : List ℕ) (vs : List Variable) (t : TableType) (at : ℕ) (r : Result ℕ Fault) where
+  pub formula_condition : t ≡ T.Condition → reached r ≡ reach (read_condition ws vs Max.max_depth at) → reached r ≡ formula_reach ws vs (table_type_number t) at
   unfolding formula_reach
   formula_condition e er = rw e er
 
-  pub formula_event : (t ≡ 3 → ⊥) → reached r ≡ reach (read_event ws vs Max.max_depth at) → reached r ≡ formula_reach ws vs t at
+  pub formula_event : (t ≡ T.Mode) ⊎ (t ≡ T.Event) → reached r ≡ reach (read_event ws vs Max.max_depth at) → reached r ≡ formula_reach ws vs (table_type_number t) at
   unfolding formula_reach
-  formula_event n er = rw (ne_eqb t 3 n) er
+  formula_event (inl e) er = rw e er
+  formula_event (inr e) er = rw e er
 
 -- ---- rows, whatever their formulas are
 abbrev row_then : Bool → Reached → ℕ → Reached
@@ -35,7 +40,7 @@ row_then false r j = Next j
 
 module _ (ws : List ℕ) (vs : List Variable) {F : Type 0} (formula : ℕ → Read F) (v m : ℕ) where
   row_tested : (l at : ℕ) → reach (read_row ws vs formula v m l at)
-      ≡ reach (tested_then (fits (3 ∷ []) (word ws at)) (ltb 0 l) (row_ok vs v m (word ws at)) true at
+      ≡ reach (tested (fits (3 ∷ []) (word ws at)) (ltb 0 l) (row_ok vs v m (word ws at)) true at
       (formula (suc at) >>> λ r. fine (row_of (word ws at) r.0, r.1)))
   unfolding read_row
   row_tested l at = ap reach (word_then ws (3 ∷ []) at _)
@@ -77,39 +82,54 @@ module _ (ws : List ℕ) (vs : List Variable) (t : ℕ) where
 
 -- ---- a row of a table of type t
 module _ (ws : List ℕ) (vs : List Variable) (t v m l at : ℕ) where
-  -- the tests of its word
-  abbrev row_tests : Parse (Unit {0})
-  row_tests = word_tests (fits (3 ∷ []) (word ws at)) (ltb 0 l) (row_ok vs v m (word ws at)) true at
-
-  row_refused : (q : Fault) → tested (Err q) ≡ row_tests → reached (Err q) ≡ row_reach ws vs t v m l at
+  -- a fault that does not ask for the formula
+  row_refused : (q : Fault)
+      → ((F : Type 0) (r : Read (Row F)) → reached (Err q) ≡ reach (tested (fits (3 ∷ []) (word ws at)) (ltb 0 l) (row_ok vs v m (word ws at)) true at r))
+      → reached (Err q) ≡ row_reach ws vs t v m l at
   unfolding row_reach
   row_refused q e =
       always (eqb t 3) ∙ by_type_lem ws vs t (λ F formula. reached (Err q)) (λ F formula. reach (read_row ws vs formula v m l at))
-      (λ F formula. tested_refused _ _ _ _ at _ q e ∙ sym (row_tested ws vs formula v m l at))
+      (λ F formula. e F _ ∙ sym (row_tested ws vs formula v m l at))
     where
       always : (b : Bool) → reached (Err q) ≡ (if b give (λ _. reached (Err q)) else (λ _. reached (Err q)))
       always true = refl
       always false = refl
 
-  row_passed : (u : Unit {0}) → tested (Ok u) ≡ row_tests → formula_reach ws vs t (suc at) ≡ row_reach ws vs t v m l at
-  unfolding row_reach formula_reach
-  row_passed u e =
-      by_type_lem ws vs t (λ F formula. reach (formula (suc at))) (λ F formula. reach (read_row ws vs formula v m l at))
-      (λ F formula. sym (made_reach (formula (suc at)) _) ∙ tested_passed _ _ _ _ at _ u e ∙ sym (row_tested ws vs formula v m l at))
-
   pub row_past : length ws ≤ at → reached (Err (Kind at)) ≡ row_reach ws vs t v m l at
-  unfolding fits mem tested refusal carried word_tests
-  row_past h = row_refused (Kind at) (rw (kind_past ws at h))
+  unfolding fits mem
+  row_past h = let e : fits (3 ∷ []) (word ws at) ≡ false = rw (kind_past ws at h) in row_refused (Kind at) (λ F r. unfit (fits (3 ∷ []) (word ws at)) (ltb 0 l) (row_ok vs v m (word ws at)) true at r e)
 
-  module _ (w : ℕ) (f b : Bool) (ew : w ≡ word ws at) (ef : f ≡ fits (3 ∷ []) w) (eb : b ≡ row_ok vs v m w)
-      (a : Result (Unit {0}) Fault) (ea : tested a ≡ word_tests f (ltb 0 l) b true at) where
-    pub row_fault : (q : Fault) → a ≡ Err q → reached (Err q) ≡ row_reach ws vs t v m l at
-    row_fault q e = row_refused q (rw (← ew, ← ef, ← eb, ← e) ea)
+  module _ (w : ℕ) (f : Bool) (ew : w ≡ word ws at) (ef : f ≡ fits (3 ∷ []) w) where
+    fitting : (b : Bool) → f ≡ b → fits (3 ∷ []) (word ws at) ≡ b
+    fitting b e = rw (← ew, ← ef) e
 
-    pub row_on : (u : Unit {0}) (r : Result ℕ Fault) → a ≡ Ok u → reached r ≡ formula_reach ws vs t (at + 1) → reached r ≡ row_reach ws vs t v m l at
-    row_on u r e er = er ∙ rw (add-one at) (row_passed u (rw (← ew, ← ef, ← eb, ← e) ea))
+    pub row_unfit : not f ≡ true → reached (Err (Kind at)) ≡ row_reach ws vs t v m l at
+    row_unfit e = row_refused (Kind at) (λ F r. unfit (fits (3 ∷ []) (word ws at)) (ltb 0 l) (row_ok vs v m (word ws at)) true at r (fitting false (not-true f e)))
 
-pub ruleset row_laws = (row_past, row_fault, row_on)
+    module _ (fit : not f ≡ false) where
+      pub row_over : l ≡ 0 → reached (Err (Limit at)) ≡ row_reach ws vs t v m l at
+      row_over z =
+          let e : ltb 0 l ≡ false = rw z in
+          row_refused (Limit at) (λ F r. no_room (fits (3 ∷ []) (word ws at)) (ltb 0 l) (row_ok vs v m (word ws at)) true at r (fitting true (not-false f fit)) e)
+
+      module _ (nz : l ≡ 0 → ⊥) (b : Bool) (eb : b ≡ row_ok vs v m w) where
+        ranged : (c : Bool) → b ≡ c → row_ok vs v m (word ws at) ≡ c
+        ranged c e = rw (← ew, ← eb) e
+
+        pub row_range : not b ≡ true → reached (Err (Range at)) ≡ row_reach ws vs t v m l at
+        row_range e =
+            row_refused (Range at) (λ F r. out_of_range _ _ _ true at r (fitting true (not-false f fit)) (above_zero l nz) (ranged false (not-true b e)))
+
+        pub row_on : (r : Result ℕ Fault) → not b ≡ false → reached r ≡ formula_reach ws vs t (at + 1) → reached r ≡ row_reach ws vs t v m l at
+        unfolding row_reach formula_reach
+        row_on r e er =
+            er ∙ rw (add-one at)
+            (by_type_lem ws vs t (λ F formula. reach (formula (suc at))) (λ F formula. reach (read_row ws vs formula v m l at))
+            (λ F formula. sym (made_reach (formula (suc at)) _)
+            ∙ passed _ _ _ true at _ (fitting true (not-false f fit)) (above_zero l nz) (ranged true (not-false b e)) refl
+            ∙ sym (row_tested ws vs formula v m l at)))
+
+pub ruleset row_laws = (row_past, row_unfit, row_over, row_range, row_on)
 
 -- ---- the rows of a table of type t: what is left to read from here is the whole reading
 module _ (ws : List ℕ) (vs : List Variable) (t v m : ℕ) where
@@ -165,3 +185,7 @@ module _ (ws : List ℕ) (vs : List Variable) (t v m : ℕ) where
       → rows_reach ws vs t v m (Max.max_rows - (i + 1)) j ≡ rows_reach ws vs t v m Max.max_rows at
   rows_on i on at j w k a e ea ew ek e3 h inv =
       then_next a _ (rows_reach ws vs t v m (Max.max_rows - (i + 1)) j) j e (rw (← ew, ← ek, e3)) ∙ rows_turn i on at h inv a ea
+
+pub ruleset formula_laws = (formula_condition, formula_event)
+
+pub ruleset rows_laws = (rows_refused, rows_end, rows_on, rows_over)

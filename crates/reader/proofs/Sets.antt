@@ -96,3 +96,5 @@ module _ (ws ps : List ℕ) (r : Result Sections Fault) (h : ReadAs ws r ps) whe
             states_are = rw (count_is ix) (w.1.states ∙ weight_is ix s.variables (omega arith));
           },
         )
+
+pub ruleset typed_laws = (weights_long, read_few, typed_wrong, typed_refused, typed_set)

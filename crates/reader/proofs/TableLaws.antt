@@ -1,7 +1,9 @@
 -- Laws of read_table and read_tables, one for each way out.
-use Rattle.std.specs.Prelude.{◌≡◌, refl, Bool, true, false, not, ◌&&◌, List, [], ◌∷◌, ℕ, zero, suc, ◌+◌, ◌-◌, ◌≤◌, ◌<◌, eqb, length, get_or, set, Result, Ok, Err}
+use Rattle.std.specs.Prelude.{◌≡◌, refl, Bool, true, false, not, ◌&&◌, List, [], ◌∷◌, ℕ, zero, suc, ◌+◌, ◌-◌, ◌≤◌, ◌<◌, eqb, ltb, length, get_or, set, Result, Ok, Err}
 use Rattle.std.proofs.Common.{sym, ap, ◌∙◌, arith, add-one, ne_eqb, eq-eqb, lt-ltb, le-ltb}
+use borrow.Author.Tests.{not-true, not-false}
 use Rattle.word.specs.Fields as W
+use Rattle.word.specs.Kinds.{table_type_number}
 use Rattle.word.specs.Limits as Max
 use Rattle.meaning.specs.Answers.{Parse, fine, stop, ◌>>>◌, expect, if◌give◌else◌}
 use Rattle.meaning.specs.Searches.{mem}
@@ -14,12 +16,14 @@ use Rattle.index.specs.Places.{Reached, Next, Refused, reach, told, place_count,
 use Rattle.index.proofs.Laws.{variables_length, variables_kept}
 use Rattle.reader.specs.declared.faults.Fault.{Fault}
 use Rattle.reader.specs.declared.faults.Fault.TheVariants.{Kind, Fit, Order}
-use Rattle.reader.specs.Faults.{refusal, carried, reached, tested, word_tests}
+use Rattle.reader.specs.Faults.{refusal, carried, reached}
+use Rattle.reader.specs.declared.headings.Heading.{Heading}
+use Rattle.reader.specs.Headings.{HeadingOf, HeadingAs}
 use Rattle.reader.specs.Formulas.{rows_reach}
 use Rattle.reader.specs.Tables.{is_placed, next_place, read_places}
 use Rattle.reader.proofs.TestLaws.{kind_past}
 use Rattle.reader.proofs.Answers.{made_reach, refused_not_next}
-use Rattle.reader.proofs.WordLaws.{tested_then, tested_refused, tested_passed}
+use Rattle.reader.proofs.WordLaws.{tested, unfit, out_of_range, unsuited, passed}
 
 -- ---- a table: its rows as the meaning reads them, and the table made of them
 module _ (ws : List ℕ) (vs : List Variable) (w i : ℕ) where
@@ -51,60 +55,78 @@ module _ (ws : List ℕ) (vs : List Variable) (at : ℕ) (taken lower : Bool) wh
   table_in_order = expect (not lower) 21 at >>> λ _. read_body ws vs (word ws at) (suc at)
 
   table_tested : reach (read_table ws vs at taken lower)
-      ≡ reach (tested_then (fits (2 ∷ []) (word ws at)) true (table_ok vs (word ws at)) (table_fits vs (word ws at) && not taken) at table_in_order)
+      ≡ reach (tested (fits (2 ∷ []) (word ws at)) true (table_ok vs (word ws at)) (table_fits vs (word ws at) && not taken) at table_in_order)
   unfolding read_table
   table_tested = ap reach (word_then ws (2 ∷ []) at _)
-
-  -- the first four tests
-  abbrev table_tests : Parse (Unit {0})
-  table_tests = word_tests (fits (2 ∷ []) (word ws at)) true (table_ok vs (word ws at)) (table_fits vs (word ws at) && not taken) at
-
-  table_refused : (q : Fault) → tested (Err q) ≡ table_tests → reached (Err q) ≡ reach (read_table ws vs at taken lower)
-  table_refused q e = tested_refused _ _ _ _ at _ q e ∙ sym table_tested
-
-  module _ (u : Unit {0}) (eu : tested (Ok u) ≡ table_tests) where
-    out_of_order : lower ≡ true → reached (Err (Order at)) ≡ reach (read_table ws vs at taken lower)
-    unfolding reach reached refusal carried
-    out_of_order e = (rw e) ∙ tested_passed _ _ _ _ at _ u eu ∙ sym table_tested
-
-    table_passed : lower ≡ false → reach (read_body ws vs (word ws at) (suc at)) ≡ reach (read_table ws vs at taken lower)
-    table_passed e = (rw e) ∙ tested_passed _ _ _ _ at _ u eu ∙ sym table_tested
 
 not_not : (a : Bool) → not (not a) ≡ a
 not_not true = refl
 not_not false = refl
 
 module _ (ws : List ℕ) (vs : List Variable) (at : ℕ) (ps : List ℕ) (before : ℕ) where
+  -- all that is read of it
+  abbrev in_order : Read Table
+  in_order = table_in_order ws vs at (is_placed ps (W.defined (word ws at))) (ltb (W.defined (word ws at)) before)
+
+  next_tested : reach (next_place ws vs at ps before)
+      ≡ reach (tested (fits (2 ∷ []) (word ws at)) true (table_ok vs (word ws at)) (table_fits vs (word ws at) && not (is_placed ps (W.defined (word ws at)))) at in_order)
+  unfolding next_place
+  next_tested = table_tested ws vs at _ _
+
   pub table_past : length ws ≤ at → reached (Err (Kind at)) ≡ reach (next_place ws vs at ps before)
-  unfolding fits mem next_place tested refusal carried word_tests
-  table_past h = table_refused ws vs at _ _ (Kind at) (rw (kind_past ws at h))
+  unfolding fits mem
+  table_past h = let e : fits (2 ∷ []) (word ws at) ≡ false = rw (kind_past ws at h) in unfit (fits (2 ∷ []) (word ws at)) true (table_ok vs (word ws at)) (table_fits vs (word ws at) && not (is_placed ps (W.defined (word ws at)))) at in_order e ∙ sym next_tested
 
-  module _ (w v p : ℕ) (f b s : Bool) (ew : w ≡ word ws at) (ef : f ≡ fits (2 ∷ []) w) (eb : b ≡ table_ok vs (word ws at))
-      (es : s ≡ table_fits vs (word ws at)) (ev : v ≡ W.defined w) (ep : p ≡ get_or ps v 0)
-      (a : Result (Unit {0}) Fault) (ea : tested a ≡ word_tests f true b (s && eqb p 0) at) where
-    found : tested a ≡ table_tests ws vs at (is_placed ps (W.defined (word ws at))) true
-    unfolding is_placed
-    found = rw (not_not (eqb (get_or ps (W.defined (word ws at)) 0) 0), ← eb, ← es, ← ew, ← ev, ← ep, ← ef) ea
+  module _ (w : ℕ) (f : Bool) (ew : w ≡ word ws at) (ef : f ≡ fits (2 ∷ []) w) where
+    fitting : (b : Bool) → f ≡ b → fits (2 ∷ []) (word ws at) ≡ b
+    fitting b e = rw (← ew, ← ef) e
 
-    pub table_fault : (q : Fault) → a ≡ Err q → reached (Err q) ≡ reach (next_place ws vs at ps before)
-    unfolding next_place
-    table_fault q e = table_refused ws vs at _ _ q (rw e at found)
+    pub table_unfit : not f ≡ true → reached (Err (Kind at)) ≡ reach (next_place ws vs at ps before)
+    table_unfit e = unfit (fits (2 ∷ []) (word ws at)) true (table_ok vs (word ws at)) (table_fits vs (word ws at) && not (is_placed ps (W.defined (word ws at)))) at in_order (fitting false (not-true f e)) ∙ sym next_tested
 
-    defines : v ≡ W.defined (word ws at)
-    defines = rw ev (rw ew refl)
+    module _ (fit : not f ≡ false) where
+      fine_word : fits (2 ∷ []) (word ws at) ≡ true
+      fine_word = fitting true (not-false f fit)
 
-    pub table_lower : (u : Unit {0}) → a ≡ Ok u → v < before → reached (Err (Order at)) ≡ reach (next_place ws vs at ps before)
-    unfolding next_place
-    table_lower u e h = out_of_order ws vs at _ _ u (rw e at found) (rw (← defines) (lt-ltb v before h))
+      pub table_range : (q : Fault) → HeadingAs vs (word ws at) at (Err q) → reached (Err q) ≡ reach (next_place ws vs at ps before)
+      unfolding HeadingAs
+      table_range q r =
+          rw r.1 (out_of_range _ _ _ _ at in_order fine_word refl r.0 ∙ sym next_tested)
 
-    pub table_on : (u : Unit {0}) (t m : ℕ) (r : Result ℕ Fault) → a ≡ Ok u → before ≤ v → t ≡ W.sort w → m ≡ W.class_read w
-        → reached r ≡ rows_reach ws vs t v m Max.max_rows (at + 1)
-        → reached r ≡ reach (next_place ws vs at ps before)
-    unfolding next_place
-    table_on u t m r e h et em er =
-        er ∙ rw (et, ev, em, ew, add-one at) (body_reach ws vs (word ws at) (suc at)) ∙ table_passed ws vs at _ _ u (rw e at found) (rw (← defines) (le-ltb v before h))
+      module _ (h : Heading) (eh : HeadingAs vs (word ws at) at (Ok h)) (p : ℕ) (ep : p ≡ get_or ps h.variable 0)
+          (s : Bool) (es : (x : ℕ) → HeadingOf x h → s ≡ table_fits vs x) where
+        ranged : (table_ok vs (word ws at) ≡ true) × HeadingOf (word ws at) h
+        unfolding HeadingAs
+        ranged = eh
 
-pub ruleset table_laws = (table_past, table_fault, table_lower, table_on)
+        suited : (b : Bool) → (s && eqb p 0) ≡ b → (table_fits vs (word ws at) && not (is_placed ps (W.defined (word ws at)))) ≡ b
+        unfolding is_placed
+        suited b e =
+            rw (not_not (eqb (get_or ps (W.defined (word ws at)) 0) 0), ← es (word ws at) ranged.1, ← ranged.1.variable_is, ← ep) e
+
+        pub table_unsuited : not (s && eqb p 0) ≡ true → reached (Err (Fit at)) ≡ reach (next_place ws vs at ps before)
+        table_unsuited e = unsuited _ _ _ _ at in_order fine_word refl ranged.0 (suited false (not-true _ e)) ∙ sym next_tested
+
+        module _ (good : not (s && eqb p 0) ≡ false) where
+          all_passed : reach in_order ≡ reach (next_place ws vs at ps before)
+          all_passed = passed _ _ _ _ at in_order fine_word refl ranged.0 (suited true (not-false _ good)) ∙ sym next_tested
+
+          pub table_lower : h.variable < before → reached (Err (Order at)) ≡ reach (next_place ws vs at ps before)
+          unfolding reached refusal carried reach
+          table_lower l =
+              let first : reached (Err (Order at)) ≡ reach in_order = rw (← ranged.1.variable_is, lt-ltb h.variable before l) in
+              first ∙ all_passed
+
+          pub table_on : (r : Result ℕ Fault) → before ≤ h.variable
+              → reached r ≡ rows_reach ws vs (table_type_number h.table_type) h.variable h.class_read Max.max_rows (at + 1)
+              → reached r ≡ reach (next_place ws vs at ps before)
+          table_on r l er =
+              let rows : rows_reach ws vs (table_type_number h.table_type) h.variable h.class_read Max.max_rows (at + 1) ≡ reach (read_body ws vs (word ws at) (suc at))
+              = rw (ranged.1.type_is, ranged.1.variable_is, ranged.1.class_is, add-one at) (body_reach ws vs (word ws at) (suc at)) in
+              let first : reach (read_body ws vs (word ws at) (suc at)) ≡ reach in_order = rw (← ranged.1.variable_is, le-ltb h.variable before l) in
+              er ∙ rows ∙ first ∙ all_passed
+
+pub ruleset table_laws = (table_past, table_unfit, table_range, table_unsuited, table_lower, table_on)
 
 -- ---- a table that was read is of a variable that is there
 module _ (ws : List ℕ) (vs : List Variable) (at : ℕ) (taken lower : Bool) (j : ℕ) where
@@ -118,22 +140,18 @@ module _ (ws : List ℕ) (vs : List Variable) (at : ℕ) (taken lower : Bool) (j
   table_below : reach (read_table ws vs at taken lower) ≡ Next j → W.defined (word ws at) < length vs
   table_below h = defined_below vs (word ws at) (not_in_range _ _ refl refl h)
 
-reached_next : (a : Result ℕ Fault) (j : ℕ) → a ≡ Ok j → reached a ≡ Next j
-unfolding reached
-reached_next a j e = rw e
-
-pub store_in : (ws ps : List ℕ) (n on before w v j : ℕ) (a : Result ℕ Fault) → w ≡ word ws on → v ≡ W.defined w
-    → reached a ≡ reach (next_place ws (variables_to ws ps n) on ps before) → a ≡ Ok j
+pub store_in : (ws ps : List ℕ) (n on before w v j : ℕ) → w ≡ word ws on → v ≡ W.defined w
+    → reached (Ok j) ≡ reach (next_place ws (variables_to ws ps n) on ps before)
     → n ≤ Max.max_variables → v < Max.max_variables
-unfolding next_place
-store_in ws ps n on before w v j a ew ev ea e h =
-    let b : W.defined (word ws on) < n = rw (variables_length ws ps n) at (table_below ws (variables_to ws ps n) on _ _ j (sym ea ∙ reached_next a j e)) in
+unfolding next_place reached
+store_in ws ps n on before w v j ew ev ea h =
+    let b : W.defined (word ws on) < n = rw (variables_length ws ps n) at (table_below ws (variables_to ws ps n) on _ _ j (sym ea)) in
     rw (ev, ew) (omega arith)
 
-pub store_fits : (ws ps : List ℕ) (n on before w v j : ℕ) (a : Result ℕ Fault) → w ≡ word ws on → v ≡ W.defined w
-    → reached a ≡ reach (next_place ws (variables_to ws ps n) on ps before) → a ≡ Ok j
+pub store_fits : (ws ps : List ℕ) (n on before w v j : ℕ) → w ≡ word ws on → v ≡ W.defined w
+    → reached (Ok j) ≡ reach (next_place ws (variables_to ws ps n) on ps before)
     → n ≤ Max.max_variables → length ps ≡ place_count → v < length ps
-store_fits ws ps n on before w v j a ew ev ea e h l = let b = store_in ws ps n on before w v j a ew ev ea e h in rw l (omega arith)
+store_fits ws ps n on before w v j ew ev ea h l = let b = store_in ws ps n on before w v j ew ev ea h in rw l (omega arith)
 
 -- ---- the tables: what is left to read from here is the whole reading
 abbrev on_reach : {A : Type 0} → Reached → (ℕ → Parse A) → Parse A
@@ -176,39 +194,41 @@ module _ (ws p₀ ps : List ℕ) (n i on before : ℕ) (all : Read (List ℕ)) (
     unfolding told reached
     tables_end nk = sym (tables_ended ws (variables_to ws p₀ n) (n - i) on ps before (rw (← ew, ← ek) (ne_eqb k 2 nk))) ∙ inv
 
-    module _ (e2 : k ≡ 2) (a : Result ℕ Fault) (kept : variables_to ws ps n ≡ variables_to ws p₀ n)
-        (ea : reached a ≡ reach (next_place ws (variables_to ws ps n) on ps before)) where
-      turn : i < n → on_reach (reached a) (λ j. read_places ws (variables_to ws p₀ n) (n - (i + 1)) j (set ps (W.defined (word ws on)) (suc on)) (W.defined (word ws on))) ≡ all
-      turn h =
+    module _ (e2 : k ≡ 2) (kept : variables_to ws ps n ≡ variables_to ws p₀ n) where
+      turn : (r : Reached) → r ≡ reach (next_place ws (variables_to ws ps n) on ps before)
+          → i < n → on_reach r (λ j. read_places ws (variables_to ws p₀ n) (n - (i + 1)) j (set ps (W.defined (word ws on)) (suc on)) (W.defined (word ws on))) ≡ all
+      turn r ea h =
           rw (ea, kept)
           (sym (tables_step ws (variables_to ws p₀ n) (n - (i + 1)) on ps before (rw (← ew, ← ek) (eq-eqb k 2 e2))) ∙ (rw (left n i h) at inv))
 
-      last : n ≤ i → on_reach (reached a) (λ j. stop 5 on) ≡ all
-      last h =
+      last : (r : Reached) → r ≡ reach (next_place ws (variables_to ws ps n) on ps before) → n ≤ i → on_reach r (λ j. stop 5 on) ≡ all
+      last r ea h =
           let z : n - i ≡ 0 = omega arith in
           rw (ea, kept) (sym (tables_last ws (variables_to ws p₀ n) on ps before (rw (← ew, ← ek) (eq-eqb k 2 e2))) ∙ (rw z at inv))
 
-      pub tables_refused : (q : Fault) → i < n → a ≡ Err q → told (reached (Err q)) ps ≡ all
+      pub tables_refused : (q : Fault) → reached (Err q) ≡ reach (next_place ws (variables_to ws ps n) on ps before) → i < n → told (reached (Err q)) ps ≡ all
       unfolding told reached
-      tables_refused q h e = rw e at (turn h)
+      tables_refused q ea h = turn _ ea h
 
-      pub tables_on : (v j : ℕ) → i < n → a ≡ Ok j → v ≡ W.defined w
+      pub tables_on : (v j : ℕ) → reached (Ok j) ≡ reach (next_place ws (variables_to ws ps n) on ps before) → i < n → v ≡ W.defined w
           → read_places ws (variables_to ws p₀ n) (n - (i + 1)) j (set ps v (on + 1)) v ≡ all
       unfolding reached
-      tables_on v j h e ev = rw (ev, ew, add-one on) (rw e at (turn h))
+      tables_on v j ea h ev = rw (ev, ew, add-one on) (turn _ ea h)
 
-      pub tables_over : (j : ℕ) → n ≤ i → a ≡ Ok j → told (reached (Err (Fit on))) ps ≡ all
+      pub tables_over : (j : ℕ) → reached (Ok j) ≡ reach (next_place ws (variables_to ws ps n) on ps before) → n ≤ i → told (reached (Err (Fit on))) ps ≡ all
       unfolding told reached refusal carried
-      tables_over j h e = rw e at (last h)
+      tables_over j ea h = last _ ea h
 
-      pub tables_last_refused : (q : Fault) → n ≤ i → a ≡ Err q → told (reached (Err q)) ps ≡ all
+      pub tables_last_refused : (q : Fault) → reached (Err q) ≡ reach (next_place ws (variables_to ws ps n) on ps before) → n ≤ i → told (reached (Err q)) ps ≡ all
       unfolding told reached
-      tables_last_refused q h e = rw e at (last h)
+      tables_last_refused q ea h = last _ ea h
 
 -- the place of a table is no place of a word
-pub tables_kept : (ws p₀ ps : List ℕ) (n on before w v j x : ℕ) (a : Result ℕ Fault) → w ≡ word ws on → v ≡ W.defined w
-    → reached a ≡ reach (next_place ws (variables_to ws ps n) on ps before) → a ≡ Ok j
+pub tables_kept : (ws p₀ ps : List ℕ) (n on before w v j x : ℕ) → w ≡ word ws on → v ≡ W.defined w
+    → reached (Ok j) ≡ reach (next_place ws (variables_to ws ps n) on ps before)
     → n ≤ Max.max_variables → variables_to ws ps n ≡ variables_to ws p₀ n
     → variables_to ws (set ps v x) n ≡ variables_to ws p₀ n
-tables_kept ws p₀ ps n on before w v j x a ew ev ea e h kept =
-    variables_kept ws ps n v x (store_in ws ps n on before w v j a ew ev ea e h) ∙ kept
+tables_kept ws p₀ ps n on before w v j x ew ev ea h kept =
+    variables_kept ws ps n v x (store_in ws ps n on before w v j ew ev ea h) ∙ kept
+
+pub ruleset tables_laws = (tables_past, tables_end, tables_refused, tables_on, tables_last_refused, tables_over, tables_kept, store_fits)

@@ -1,17 +1,22 @@
 -- Laws of the tests of one word: what the code works out from a word's fields is what the meaning asks of the word.
-use mathlib.Core.Path.{◌≡◌}
-use mathlib.Core.Bool.{Bool, not, ◌&&◌, ◌||◌, or-false}
-use mathlib.Core.List.{List, [], ◌∷◌}
-use Prim.Native.Nat.{ℕ, ◌≤◌}
-use lib.Dec.{eqb, leb, ltb}
-use lib.ListN.{length}
-use borrow.Author.Tests.{ne_eqb}
+use mathlib.Core.Bool.{or-false}
+use Rattle.std.specs.Prelude.{◌≡◌, refl, Bool, true, false, not, ◌&&◌, ◌||◌, List, [], ◌∷◌, ℕ, ◌≤◌, eqb, leb, ltb, length, Result, Ok, Err, is_ok, ◌⊎◌}
+use Rattle.std.proofs.Common.{◌∙◌, inl, inr}
 use Rattle.word.specs.Fields as W
+use Rattle.word.specs.Kinds.{IsClass, IsRelation, IsTableType, table_type_number}
+use Rattle.word.specs.declared.kinds.Class.{Class}
+use Rattle.word.specs.declared.kinds.Relation.{Relation}
+use Rattle.word.specs.declared.kinds.TableType.{TableType}
+use Rattle.word.specs.declared.kinds.TableType.TheVariants as T
+use Rattle.word.specs.declared.kinds.Unnamed.{Unnamed}
 use Rattle.word.specs.Limits as Max
 use Rattle.meaning.specs.Searches.{mem, within}
 use Rattle.meaning.specs.Lookup.{variable_at}
 use Rattle.meaning.specs.Reading.{word, fits, condition_kinds, event_kinds, variable_ok, test_ok, row_ok, table_ok, table_fits}
 use Rattle.index.specs.Places.{variables_to}
+use Rattle.reader.specs.declared.faults.Fault.TheVariants.{Range}
+use Rattle.reader.specs.declared.headings.Heading.{Heading}
+use Rattle.reader.specs.Headings.{HeadingOf, HeadingAs}
 use Rattle.index.proofs.Laws.{past_end, variables_length}
 
 module _ (w k : ℕ) (clear : Bool) (ek : k ≡ W.kind w) (ec : clear ≡ W.spare_clear w) where
@@ -32,18 +37,19 @@ pub kind_past : (ws : List ℕ) (i : ℕ) → length ws ≤ i → W.kind (word w
 unfolding W.kind
 kind_past ws i h = rw (← past_end ws i h)
 
-pub variable_fields : (w class n first : ℕ) (known sized : Bool) → class ≡ W.sort w → n ≡ W.size w → first ≡ W.initial w
-    → known ≡ within 1 4 class → sized ≡ within Max.min_size Max.max_size n
-    → (((known && sized) && (not (eqb class 2) || leb n Max.max_modes)) && ltb first n) ≡ variable_ok w
-unfolding variable_ok
-variable_fields w class n first known sized ec en ef ek es = rw (ek, es, ec, en, ef)
+pub variable_fields : (w class n first : ℕ) (known : Bool) → class ≡ W.sort w → n ≡ W.size w → first ≡ W.initial w
+    → (r : Result Class Unnamed) → IsClass class r → known ≡ is_ok r
+    → (((known && (leb Max.min_size n && leb n Max.max_size)) && (not (eqb class 2) || leb n Max.max_modes)) && ltb first n) ≡ variable_ok w
+unfolding variable_ok within
+variable_fields w class n first known ec en ef r er ek = rw (ek, er.0, ec, en, ef)
 
 module _ (ws ps : List ℕ) (n w : ℕ) where
-  pub test_fields : (v how k values : ℕ) → v ≡ W.variable w → how ≡ W.relation w → k ≡ W.value w
+  pub test_fields : (v how k values : ℕ) (related : Bool) → v ≡ W.variable w → how ≡ W.relation w → k ≡ W.value w
+      → (r : Result Relation Unnamed) → IsRelation how r → related ≡ is_ok r
       → values ≡ (variable_at (variables_to ws ps n) v).size
-      → ((ltb v n && leb how 1) && ltb k values) ≡ test_ok (variables_to ws ps n) w
+      → ((ltb v n && related) && ltb k values) ≡ test_ok (variables_to ws ps n) w
   unfolding test_ok
-  test_fields v how k values ev eh ek es = rw (variables_length ws ps n, es, ev, eh, ek)
+  test_fields v how k values related ev eh ek r er el es = rw (variables_length ws ps n, es, el, er.0, ev, eh, ek)
 
   pub row_fields : (v m r k modes values : ℕ) → r ≡ W.mode w → k ≡ W.value w
       → modes ≡ (variable_at (variables_to ws ps n) m).size → values ≡ (variable_at (variables_to ws ps n) v).size
@@ -51,18 +57,46 @@ module _ (ws ps : List ℕ) (n w : ℕ) where
   unfolding row_ok
   row_fields v m r k modes values er ek em ev = rw (er, ek, em, ev)
 
-module _ (ws ps : List ℕ) (n at w t v m : ℕ) (ew : w ≡ word ws at) (et : t ≡ W.sort w) (ev : v ≡ W.defined w) (em : m ≡ W.class_read w) where
-  pub table_fields : (known : Bool) → known ≡ within 1 3 t
-      → ((known && ltb v n) && (eqb m Max.any || ltb m n)) ≡ table_ok (variables_to ws ps n) (word ws at)
-  unfolding table_ok
-  table_fields known ek = rw (ek, et, ev, em, ew, variables_length ws ps n)
+-- ---- the heading of a table
+module _ (ws ps : List ℕ) (n at w t v m : ℕ) (ew : w ≡ word ws at) (et : t ≡ W.sort w) (ev : v ≡ W.defined w) (em : m ≡ W.class_read w)
+    (r : Result TableType Unnamed) (er : IsTableType t r) where
+  ranges : (b : Bool) → ((is_ok r && ltb v n) && (eqb m Max.any || ltb m n)) ≡ b → table_ok (variables_to ws ps n) (word ws at) ≡ b
+  unfolding table_ok within
+  ranges b e = rw (← ew, ← et, ← ev, ← em, variables_length ws ps n, ← er.0) e
 
-  module _ (class : ℕ) (ec : class ≡ (variable_at (variables_to ws ps n) v).class) where
-    pub mode_table_fits : t ≡ 1 → (eqb class 2 && eqb m v) ≡ table_fits (variables_to ws ps n) (word ws at)
-    unfolding table_fits
-    mode_table_fits e = rw (ec, ev, em, ← ew, ← et, e)
+  pub heading_said : (k : TableType) → r ≡ Ok k → (ltb v n && (eqb m Max.any || ltb m n)) ≡ true
+      → HeadingAs (variables_to ws ps n) (word ws at) at (Ok (record { table_type = k; variable = v; class_read = m }))
+  unfolding HeadingAs
+  heading_said k ek e =
+      let named : table_type_number k ≡ t = (rw ek at er).1 in (
+        ranges true (rw ek e),
+        record { type_is = named ∙ rw (← ew) et; variable_is = rw (← ew) ev; class_is = rw (← ew) em },
+      )
 
-    pub other_table_fits : (read : ℕ) → read ≡ (variable_at (variables_to ws ps n) m).class → (t ≡ 1 → ⊥)
-        → (leb 3 class && (eqb m Max.any || eqb read 2)) ≡ table_fits (variables_to ws ps n) (word ws at)
-    unfolding table_fits
-    other_table_fits read er e = rw (ec, er, ev, em, ← ew, ← et, ne_eqb t 1 e)
+  pub heading_ranged : (k : TableType) → r ≡ Ok k → (ltb v n && (eqb m Max.any || ltb m n)) ≡ false
+      → HeadingAs (variables_to ws ps n) (word ws at) at (Err (Range at))
+  unfolding HeadingAs
+  heading_ranged k ek e = (ranges false (rw ek e), refl)
+
+  pub heading_untyped : (u : Unnamed) → r ≡ Err u → HeadingAs (variables_to ws ps n) (word ws at) at (Err (Range at))
+  unfolding HeadingAs
+  heading_untyped u eu = (ranges false (rw eu refl), refl)
+
+module _ (ws ps : List ℕ) (n : ℕ) (h : Heading) (class read : ℕ) (ec : class ≡ (variable_at (variables_to ws ps n) h.variable).class)
+    (er : read ≡ (variable_at (variables_to ws ps n) h.class_read).class) (w : ℕ) (is : HeadingOf w h) where
+  pub mode_fits : h.table_type ≡ T.Mode → (eqb class 2 && eqb h.class_read h.variable) ≡ table_fits (variables_to ws ps n) w
+  unfolding table_fits
+  mode_fits e = rw (← is.type_is, ← is.variable_is, ← is.class_is, e, ec)
+
+  other_fits : (eqb (table_type_number h.table_type) 1 ≡ false) → (leb 3 class && (eqb h.class_read Max.any || eqb read 2)) ≡ table_fits (variables_to ws ps n) w
+  unfolding table_fits
+  other_fits e = rw (← is.type_is, ← is.variable_is, ← is.class_is, e, ec, er)
+
+  pub event_fits : (h.table_type ≡ T.Event) ⊎ (h.table_type ≡ T.Condition)
+      → (leb 3 class && (eqb h.class_read Max.any || eqb read 2)) ≡ table_fits (variables_to ws ps n) w
+  event_fits (inl e) = other_fits (rw e refl)
+  event_fits (inr e) = other_fits (rw e refl)
+
+pub ruleset heading_laws = (heading_said, heading_ranged, heading_untyped)
+
+pub ruleset fit_laws = (mode_fits, event_fits)

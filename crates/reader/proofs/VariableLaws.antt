@@ -120,3 +120,5 @@ module _ (ws ps : List ℕ) (n : ℕ) (v : Result ℕ Fault) (h : VariablesAs ws
   pub variables_long : length ps ≡ place_count
   unfolding VariablesAs
   variables_long = (rw e at h).long
+
+pub ruleset variables_laws = (places_long, places_none, no_tables_on, variables_end, variables_bad, variables_on, variables_over, variables_all)

@@ -15,6 +15,7 @@ use Rattle.reader.specs.Faults.{refusal, carried, reached}
 use Rattle.reader.specs.Variables.{VariablesRead, VariablesAs}
 use Rattle.reader.specs.Tables.{read_places}
 use Rattle.reader.specs.Typed.{ReadAs}
+use Rattle.reader.proofs.VariableLaws.{variables_few, variables_long}
 use Rattle.reader.proofs.Answers.{reach_stop, reach_fine}
 use Rattle.reader.proofs.Places.{tables_stopped, tables_read}
 
@@ -89,3 +90,5 @@ module _ (ws ps : List ℕ) where
                 assertions_are = c.1;
               },
             )
+
+pub ruleset words_laws = (words_none, words_over, words_variables, words_tables, words_assertions, words_all, variables_few, variables_long)

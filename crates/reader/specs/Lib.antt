@@ -1,4 +1,6 @@
 pub mod Faults
+pub mod Known
+pub mod Headings
 pub mod Variables
 pub mod Formulas
 pub mod Tables

@@ -2,32 +2,41 @@
 ghost use Rattle.std.specs.Prelude.{◌≡◌};
 ghost use Rattle.word.specs.Limits as Max;
 ghost use Rattle.meaning.specs.Reading as R;
-ghost use Rattle.index.specs.Places.{variables_to, reach};
+ghost use Rattle.reader.specs.Known.{known};
+ghost use Rattle.index.specs.Places.{reach};
 ghost use Rattle.reader.specs.Faults.{reached};
 
 use crate::faults::Fault;
 use crate::formulas::read_condition;
-use crate::tests::{fits_kind, test_word};
+use crate::tests::fits_kind;
 use index::{Variables, word_at};
 use word::{AssertionType, Kind, MAX_ASSERTIONS, MAX_DEPTH, sort};
 
 // One assertion; `left` of them may still stand, this one included.
+#[tactic(auto, using(crate::proofs::AssertionLaws::assertion_laws))]
 fn read_assertion(set: &Variables, left: usize, at: usize) -> Result<usize, Fault>
-    ensures { reached result ≡ reach (R.read_assertion set.now.words.now (variables_to set.now.words.now set.now.places.now set.now.count) left at) }
+    ensures { reached result ≡ reach (R.read_assertion set.now.words.now (known set.now) left at) }
 {
     if set.words.len() <= at {
         return Err(Fault::Kind(at));
     }
     let w = word_at(set.words, at);
-    let fits = fits_kind(w, Kind::Assertion as u32);
-    let ranged = sort(w) == AssertionType::OfStates as u32;
-    test_word(at, fits, 0 < left, ranged, true)?;
+    if !fits_kind(w, Kind::Assertion) {
+        return Err(Fault::Kind(at));
+    }
+    if left == 0 {
+        return Err(Fault::Limit(at));
+    }
+    if AssertionType::try_from(sort(w)).is_err() {
+        return Err(Fault::Range(at));
+    }
     read_condition(set, at + 1, MAX_DEPTH)
 }
 
 // The assertions from `at` on. One too many is read with none left, which refuses it.
+#[tactic(auto, using(crate::proofs::AssertionLaws::assertions_laws))]
 pub fn read_assertions(set: &Variables, at: usize) -> Result<usize, Fault>
-    ensures { reached result ≡ reach (R.read_assertions set.now.words.now (variables_to set.now.words.now set.now.places.now set.now.count) Max.max_assertions at) }
+    ensures { reached result ≡ reach (R.read_assertions set.now.words.now (known set.now) Max.max_assertions at) }
 {
     let mut on = at;
     for i in 0..MAX_ASSERTIONS {

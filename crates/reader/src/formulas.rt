@@ -4,17 +4,19 @@
 // would be kept and copied at every word.
 ghost use Rattle.std.specs.Prelude.{◌≡◌};
 ghost use Rattle.meaning.specs.Reading as R;
-ghost use Rattle.index.specs.Places.{variables_to, reach};
+ghost use Rattle.reader.specs.Known.{known};
+ghost use Rattle.index.specs.Places.{reach};
 ghost use Rattle.reader.specs.Faults.{reached};
 ghost use Rattle.reader.specs.Formulas.{change_reach};
 
 use crate::faults::Fault;
-use crate::tests::{fits_condition, fits_event, test_ok, within};
+use crate::tests::{fits_condition, fits_event, test_ok};
 use index::{Variables, word_at};
 use word::{Change, Kind, kind, operands, sort, truth};
 
+#[tactic(auto, using(crate::proofs::FormulaLaws::conditions))]
 pub fn read_condition(set: &Variables, at: usize, left: usize) -> Result<usize, Fault>
-    ensures { reached result ≡ reach (R.read_condition set.now.words.now (variables_to set.now.words.now set.now.places.now set.now.count) left at) }
+    ensures { reached result ≡ reach (R.read_condition set.now.words.now (known set.now) left at) }
 {
     if set.words.len() <= at {
         return Err(Fault::Kind(at));
@@ -47,15 +49,17 @@ pub fn read_condition(set: &Variables, at: usize, left: usize) -> Result<usize, 
 }
 
 // The two conditions c and d after a change word.
+#[tactic(auto, using(crate::proofs::FormulaLaws::change_laws))]
 pub fn read_change(set: &Variables, at: usize, left: usize) -> Result<usize, Fault>
-    ensures { reached result ≡ change_reach set.now.words.now (variables_to set.now.words.now set.now.places.now set.now.count) left at }
+    ensures { reached result ≡ change_reach set.now.words.now (known set.now) left at }
 {
     let second = read_condition(set, at, left)?;
     read_condition(set, second, left)
 }
 
+#[tactic(auto, using(crate::proofs::FormulaLaws::events))]
 pub fn read_event(set: &Variables, at: usize, left: usize) -> Result<usize, Fault>
-    ensures { reached result ≡ reach (R.read_event set.now.words.now (variables_to set.now.words.now set.now.places.now set.now.count) left at) }
+    ensures { reached result ≡ reach (R.read_event set.now.words.now (known set.now) left at) }
 {
     if set.words.len() <= at {
         return Err(Fault::Kind(at));
@@ -75,11 +79,7 @@ pub fn read_event(set: &Variables, at: usize, left: usize) -> Result<usize, Faul
                 let second = read_event(set, on, less)?;
                 return read_event(set, second, less);
             }
-            if within(
-                Change::BecomesTrue as u32,
-                Change::BecomesFalse as u32,
-                sort(w),
-            ) {
+            if Change::try_from(sort(w)).is_ok() {
                 return read_change(set, on, less);
             }
             return Err(Fault::Range(at));

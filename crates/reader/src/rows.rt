@@ -1,52 +1,54 @@
-// Rows with their formulas, in a table whose word says the heading.
+// Rows with their formulas, below the heading of their table.
 ghost use Rattle.std.specs.Prelude.{◌≡◌};
 ghost use Rattle.word.specs.Limits as Max;
-ghost use Rattle.index.specs.Places.{variables_to};
+ghost use Rattle.word.specs.Kinds.{table_type_number};
+ghost use Rattle.reader.specs.Known.{known};
 ghost use Rattle.reader.specs.Faults.{reached};
 ghost use Rattle.reader.specs.Formulas.{formula_reach, row_reach, rows_reach};
 
 use crate::faults::Fault;
 use crate::formulas::{read_condition, read_event};
-use crate::tests::{fits_kind, row_ok, test_word};
+use crate::headings::Heading;
+use crate::tests::{fits_kind, row_ok};
 use index::{Variables, word_at};
 use word::{Kind, MAX_DEPTH, MAX_ROWS, TableType, kind};
 
-// What the rows of a table are read with: its type, the variable that it defines, and the class that it reads.
-#[derive(Clone, Copy)]
-pub struct Heading {
-    pub table_type: u32,
-    pub variable: usize,
-    pub class_read: usize,
-}
-
 // The formula of a row.
-fn read_formula(set: &Variables, table_type: u32, at: usize) -> Result<usize, Fault>
-    ensures { reached result ≡ formula_reach set.now.words.now (variables_to set.now.words.now set.now.places.now set.now.count) table_type at }
+#[tactic(auto, using(crate::proofs::RowLaws::formula_laws))]
+fn read_formula(set: &Variables, table_type: TableType, at: usize) -> Result<usize, Fault>
+    ensures { reached result ≡ formula_reach set.now.words.now (known set.now) (table_type_number table_type) at }
 {
-    if table_type == TableType::Condition as u32 {
-        read_condition(set, at, MAX_DEPTH)
-    } else {
-        read_event(set, at, MAX_DEPTH)
+    match table_type {
+        TableType::Condition => read_condition(set, at, MAX_DEPTH),
+        TableType::Mode | TableType::Event => read_event(set, at, MAX_DEPTH),
     }
 }
 
 // A row with its formula; `left` rows may still stand, this one included.
+#[tactic(auto, using(crate::proofs::RowLaws::row_laws))]
 fn read_row(set: &Variables, heading: Heading, left: usize, at: usize) -> Result<usize, Fault>
-    ensures { reached result ≡ row_reach set.now.words.now (variables_to set.now.words.now set.now.places.now set.now.count) heading.table_type heading.variable heading.class_read left at }
+    ensures { reached result ≡ row_reach set.now.words.now (known set.now) (table_type_number heading.table_type) heading.variable heading.class_read left at }
 {
     if set.words.len() <= at {
         return Err(Fault::Kind(at));
     }
     let w = word_at(set.words, at);
-    let fits = fits_kind(w, Kind::Row as u32);
-    let ranged = row_ok(set, heading.variable, heading.class_read, w);
-    test_word(at, fits, 0 < left, ranged, true)?;
+    if !fits_kind(w, Kind::Row) {
+        return Err(Fault::Kind(at));
+    }
+    if left == 0 {
+        return Err(Fault::Limit(at));
+    }
+    if !row_ok(set, heading, w) {
+        return Err(Fault::Range(at));
+    }
     read_formula(set, heading.table_type, at + 1)
 }
 
 // The rows of a table, to the first word that is no row. One row too many is read with none left, which refuses it.
+#[tactic(auto, using(crate::proofs::RowLaws::rows_laws))]
 pub fn read_rows(set: &Variables, heading: Heading, at: usize) -> Result<usize, Fault>
-    ensures { reached result ≡ rows_reach set.now.words.now (variables_to set.now.words.now set.now.places.now set.now.count) heading.table_type heading.variable heading.class_read Max.max_rows at }
+    ensures { reached result ≡ rows_reach set.now.words.now (known set.now) (table_type_number heading.table_type) heading.variable heading.class_read Max.max_rows at }
 {
     let mut on = at;
     for i in 0..MAX_ROWS {

@@ -1,44 +1,45 @@
 // Tables with their rows.
 ghost use Rattle.std.specs.Prelude.{◌≡◌, ◌≤◌, length};
 ghost use Rattle.word.specs.Limits as Max;
+ghost use Rattle.reader.specs.Known.{known};
 ghost use Rattle.index.specs.Places.{place_count, variables_to, reach, told};
 ghost use Rattle.reader.specs.Faults.{reached};
 ghost use Rattle.reader.specs.Tables.{next_place, read_places};
 
 use crate::faults::Fault;
-use crate::rows::{Heading, read_rows};
-use crate::tests::{fits_kind, table_fits, table_ok, test_word};
+use crate::headings::{heading_fits, read_heading};
+use crate::rows::read_rows;
+use crate::tests::fits_kind;
 use index::{Variables, word_at};
-use word::{Kind, class_read, defined, kind, sort};
+use word::{Kind, defined, kind};
 
 // A table with its rows, behind one for variable `before` (0 for none: no variable is lower). The set's places have, by variable, the place of
 // the first row of each table so far, 0 for none.
+#[tactic(auto, using(crate::proofs::TableLaws::table_laws))]
 fn read_table(set: &Variables, at: usize, before: usize) -> Result<usize, Fault>
-    ensures { reached result ≡ reach (next_place set.now.words.now (variables_to set.now.words.now set.now.places.now set.now.count) at set.now.places.now before) }
+    ensures { reached result ≡ reach (next_place set.now.words.now (known set.now) at set.now.places.now before) }
 {
     if set.words.len() <= at {
         return Err(Fault::Kind(at));
     }
     let w = word_at(set.words, at);
-    let fits = fits_kind(w, Kind::Table as u32);
-    let ranged = table_ok(set, at);
-    let suited = table_fits(set, at);
-    let v = defined(w) as usize;
-    let p = set.place_of(v);
-    test_word(at, fits, true, ranged, suited & (p == 0))?;
-    if v < before {
+    if !fits_kind(w, Kind::Table) {
+        return Err(Fault::Kind(at));
+    }
+    let heading = read_heading(set, at)?;
+    let free = set.place_of(heading.variable) == 0;
+    if !(heading_fits(set, heading) & free) {
+        return Err(Fault::Fit(at));
+    }
+    if heading.variable < before {
         return Err(Fault::Order(at));
     }
-    let heading = Heading {
-        table_type: sort(w),
-        variable: v,
-        class_read: class_read(w) as usize,
-    };
     read_rows(set, heading, at + 1)
 }
 
 // The tables from `at` on, in rising number of their variables. The place of each one's first row goes to the entry of the variable that it
 // defines. A variable has one table, so that there are n at most: one too many is refused for what is wrong with it, else by 5.
+#[tactic(auto, using(crate::proofs::TableLaws::tables_laws))]
 pub fn read_tables(words: &[u32], places: &mut [usize], n: usize, at: usize) -> Result<usize, Fault>
     requires { (length places.old ≡ place_count) × (n ≤ Max.max_variables) }
     ensures places_after { told (reached result) places.new ≡ read_places words.now (variables_to words.now places.old n) n at places.old 0 }

@@ -10,6 +10,7 @@ use word::{Kind, MAX_VARIABLES, kind};
 
 // The number of variables, which is the place after them too. Each bit of a variable word is named, so that none is refused by 2; one too many
 // is refused by 4, whatever its fields are. The place of each variable's word goes behind the places of tables.
+#[tactic(auto, using(crate::proofs::VariableLaws::variables_laws))]
 pub fn read_variables(words: &[u32], places: &mut [usize]) -> Result<usize, Fault>
     requires { places.old ≡ no_places }
     ensures { VariablesAs words.now places.new result }

@@ -1,6 +1,6 @@
 -- One law for each way out of the reading of a set.
-use Rattle.std.specs.Prelude.{◌≡◌, List, [], ◌∷◌, ℕ, ◌≤◌, length, take, Result, Ok, Err, IsErrAnd}
-use Rattle.std.proofs.Common.{sym, ap, ◌∙◌, subst}
+use Rattle.std.specs.Prelude.{◌≡◌, List, [], ◌∷◌, ℕ, ◌≤◌, length, take, Result, Ok, Err}
+use Rattle.std.proofs.Common.{sym, ◌∙◌, subst}
 use Rattle.word.specs.Limits as Max
 use Rattle.meaning.specs.Answers.{ok, refuse}
 use Rattle.meaning.specs.Order.{order, no_cycle}
@@ -13,7 +13,6 @@ use Rattle.order.specs.declared.Cycle as O
 use Rattle.order.specs.Orders.{order_at, no_cycle_at, cycle_said}
 use Rattle.order.proofs.Means.{order_means, order_below}
 use Rattle.theory.specs.Numbered.{typed_number}
-use Rattle.set.specs.declared.faults.Fault.{Fault}
 use Rattle.set.specs.declared.faults.Fault.TheVariants.{Unread, Cycle}
 use Rattle.set.specs.ReadSet.{SetAs}
 
@@ -53,7 +52,4 @@ module _ (ws ps us os : List ℕ) (t : Result Extent R.Fault) (x : Extent) (o : 
         },
       )
 
--- what is made of an error that is passed on
-pub passed_on : (r : Result Extent Fault) (f : Fault) → IsErrAnd r (λ g. g ≡ f) → r ≡ Err f
-passed_on (Ok x) f h = absurd h
-passed_on (Err g) f h = ap (λ (e : Fault). Err e) h
+pub ruleset set_laws = (set_refused, index_few, set_cycle, set_all)

@@ -14,6 +14,7 @@ use order::order_tables;
 use reader::read_typed;
 
 // How far the set goes; `places`, `weights` and `order` are written. Nothing is said of them after a refusal.
+#[tactic(auto, using(crate::proofs::Laws::set_laws))]
 pub fn read_set(
     words: &[u32],
     places: &mut [usize],

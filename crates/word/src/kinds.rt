@@ -1,4 +1,9 @@
-// The numbers of document 01 by name: what a word is, and what its fields say.
+// The numbers of document 01 by name: what a word is, and what its fields say. A number that is read from a word becomes a name by `try_from`.
+ghost use Rattle.word.specs.Kinds.{IsClass, IsTableType, IsRelation, IsChange, IsAssertionType};
+
+// A number that no name stands for.
+#[derive(Clone, Copy, PartialEq, Eq)]
+pub struct Unnamed(pub u32);
 
 // What a word is, by its top four bits. 0 and the numbers from 12 on are no kind.
 #[derive(Clone, Copy, PartialEq, Eq)]
@@ -25,12 +30,43 @@ pub enum Class {
     Controlled = 4,
 }
 
+impl TryFrom<u32> for Class {
+    type Error = Unnamed;
+
+    ghost try_from_gives = { IsClass };
+
+    fn try_from(number: u32) -> Result<Self, Unnamed> {
+        match number {
+            1 => Ok(Class::Monitored),
+            2 => Ok(Class::ModeClass),
+            3 => Ok(Class::Term),
+            4 => Ok(Class::Controlled),
+            _ => Err(Unnamed(number)),
+        }
+    }
+}
+
 // The type of a table.
 #[derive(Clone, Copy, PartialEq, Eq)]
 pub enum TableType {
     Mode = 1,
     Event = 2,
     Condition = 3,
+}
+
+impl TryFrom<u32> for TableType {
+    type Error = Unnamed;
+
+    ghost try_from_gives = { IsTableType };
+
+    fn try_from(number: u32) -> Result<Self, Unnamed> {
+        match number {
+            1 => Ok(TableType::Mode),
+            2 => Ok(TableType::Event),
+            3 => Ok(TableType::Condition),
+            _ => Err(Unnamed(number)),
+        }
+    }
 }
 
 // A test: a variable equals a value, or is at most that value.
@@ -40,6 +76,20 @@ pub enum Relation {
     AtMost = 1,
 }
 
+impl TryFrom<u32> for Relation {
+    type Error = Unnamed;
+
+    ghost try_from_gives = { IsRelation };
+
+    fn try_from(number: u32) -> Result<Self, Unnamed> {
+        match number {
+            0 => Ok(Relation::Equals),
+            1 => Ok(Relation::AtMost),
+            _ => Err(Unnamed(number)),
+        }
+    }
+}
+
 // A change, @T or @F: a condition becomes true, or false.
 #[derive(Clone, Copy, PartialEq, Eq)]
 pub enum Change {
@@ -47,8 +97,35 @@ pub enum Change {
     BecomesFalse = 2,
 }
 
+impl TryFrom<u32> for Change {
+    type Error = Unnamed;
+
+    ghost try_from_gives = { IsChange };
+
+    fn try_from(number: u32) -> Result<Self, Unnamed> {
+        match number {
+            1 => Ok(Change::BecomesTrue),
+            2 => Ok(Change::BecomesFalse),
+            _ => Err(Unnamed(number)),
+        }
+    }
+}
+
 // The one type of assertion.
 #[derive(Clone, Copy, PartialEq, Eq)]
 pub enum AssertionType {
     OfStates = 1,
+}
+
+impl TryFrom<u32> for AssertionType {
+    type Error = Unnamed;
+
+    ghost try_from_gives = { IsAssertionType };
+
+    fn try_from(number: u32) -> Result<Self, Unnamed> {
+        match number {
+            1 => Ok(AssertionType::OfStates),
+            _ => Err(Unnamed(number)),
+        }
+    }
 }

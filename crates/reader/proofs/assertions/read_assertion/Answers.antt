@@ -1,12 +1,5 @@
-use Rattle.reader.proofs.Answers.{passed_on}
 use Rattle.reader.proofs.AssertionLaws.{assertion_laws}
 use Rattle.reader.proofs.assertions.read_assertion.Goals as goal
 
-pub returns-then-set-at : goal.returns-then-set-at
-returns-then-set-at c = search assertion_laws
-
-pub returns-in_err-test_word : goal.returns-in_err-test_word
-returns-in_err-test_word c = rw (passed_on _ _ c.from_residual.ensures.1) (search (assertion_laws, c.in_err-test_word.was))
-
 pub returns : goal.returns
-returns c = search (assertion_laws, c.in_ok-test_word.was)
+returns c = search assertion_laws

@@ -1,5 +1,4 @@
-use mathlib.Core.Path.{◌≡◌}
-use Prim.Native.Nat.{◌≤◌, ◌-◌}
+use Rattle.std.specs.Prelude.{◌≡◌, ◌≤◌, ◌-◌}
 use Rattle.word.specs.Limits as Max
 use Rattle.meaning.specs.Reading.{read_assertions}
 use Rattle.index.specs.Places.{reach, variables_to}

@@ -1,6 +1,4 @@
-use mathlib.Core.Path.{◌≡◌}
-use Prim.Native.Nat.{◌≤◌, ◌-◌}
-use lib.ListN.{length}
+use Rattle.std.specs.Prelude.{◌≡◌, ◌≤◌, ◌-◌, length}
 use Rattle.index.specs.Places.{place_count, variables_to}
 use Rattle.reader.specs.Tables.{read_places}
 use Rattle.reader.proofs.tables.read_tables.Given as goal

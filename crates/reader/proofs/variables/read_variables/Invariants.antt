@@ -1,7 +1,4 @@
-use mathlib.Core.Path.{◌≡◌}
-use mathlib.Core.List.{[]}
-use Prim.Native.Nat.{◌≤◌, ◌-◌}
-use lib.ListN.{length}
+use Rattle.std.specs.Prelude.{◌≡◌, [], ◌≤◌, ◌-◌, length}
 use Rattle.word.specs.Limits as Max
 use Rattle.meaning.specs.Reading.{read_variables}
 use Rattle.index.specs.Places.{place_count, variables_to}
