@@ -1,7 +1,7 @@
 -- One law for each way out of the functions of this crate, in the code's own terms.
-use Rattle.std.proofs.Common.{◌≡◌, refl, sym, ap, ◌∙◌, ℕ, zero, suc, ◌+◌, ◌-◌, ◌%◌, ◌≤◌, ◌<◌, Bool, true, false, not, eqb, List, ◌++◌, length, get_or, set, drop, drop_of_length-le, drop-cons, arith, add-one, ne_eqb, Ok, Err}
+use Rattle.std.proofs.Common.{◌≡◌, refl, sym, ap, ◌∙◌, ℕ, zero, suc, ◌+◌, ◌-◌, ◌%◌, ◌≤◌, ◌<◌, Bool, true, not, eqb, List, ◌++◌, length, get_or, set, drop, drop_of_length-le, drop-cons, arith, add-one, ne_eqb, Ok, Err}
 use Rattle.std.proofs.lemmas.List.Edits.{sets, sets-eq}
-use borrow.Author.Tests.{not-true, not-false}
+use borrow.Author.Tests.{not-true}
 use Rattle.word.specs.Fields as W
 use Rattle.word.specs.Limits as Max
 use Rattle.meaning.specs.Answers.{ok, ◌>>=◌, if◌give◌else◌}
@@ -168,12 +168,12 @@ module _ (ws ps us os : List ℕ) (n i s w : ℕ) (on : Bool) (eo : on ≡ enabl
   unfolding stepped_says no_step_is step_index
   not_enabled f = rw (← eo, not-true on f)
 
-  module _ (a : List ℕ) (m : ℕ) (r : Settled) (f : not on ≡ false) (em : m ≡ n)
+  module _ (a : List ℕ) (m : ℕ) (r : Settled) (f : on ≡ true) (em : m ≡ n)
       (er : joined r a ≡ state_walk ws ps us s os (list_of (digit_at ws ps us s) m)) where
     from_says : step_index ws ps us os n i s w ≡ (settled_says 0 s (input_of w) a r >>= λ d. after_index ws ps us os n s w d)
     unfolding step_index
     from_says =
-        rw (← eo, not-false on f)
+        rw (← eo, f)
         (rw (said 0 s (input_of w) r a (state_walk ws ps us s os (list_of (digit_at ws ps us s) n)) (rw em at er)))
 
     pub from_fault : (x : Unsettled) → r ≡ Err x → stepped_says s (input_of w) (Err (Before x)) ≡ step_index ws ps us os n i s w

@@ -6,7 +6,6 @@ ghost use Rattle.simulator.specs.RunIndex.{ended_says, run_index};
 
 use crate::{NoStep, step_from};
 use index::Index;
-use word::Value;
 
 // The first event that is not done: the state before it, its word, and why there is no step.
 #[derive(Clone, Copy)]
@@ -16,23 +15,16 @@ pub struct Stopped {
     pub why: NoStep,
 }
 
-// The last state of the events from state s on. The state after each event done is written to the event's place in the lent list; before and
-// after are lent for the values of one step, an element for each variable.
-pub fn run_events(
-    index: &Index,
-    s: u32,
-    events: &[u32],
-    before: &mut [Value],
-    after: &mut [Value],
-    trace: &mut [u32],
-) -> Result<u32, Stopped>
-    requires { (length before.old ≡ index.now.variables.count) × (length after.old ≡ index.now.variables.count) × (index.now.variables.count ≤ Max.max_variables) × (length events.now ≤ length trace.old) }
+// The last state of the events from state s on. The state after each event done is written to the event's place in the lent list.
+pub fn run_events(index: &Index, s: u32, events: &[u32], trace: &mut [u32]) -> Result<u32, Stopped>
+    requires few { index.now.variables.count ≤ Max.max_variables }
+    requires room { length events.now ≤ length trace.old }
     ensures result_value { ended_says result ≡ (run_index index.now.variables.words.now index.now.variables.places.now index.now.weights.now index.now.order.now index.now.variables.count 0 s events.now).last }
     ensures trace_after { trace.new ≡ sets trace.old 0 (run_index index.now.variables.words.now index.now.variables.places.now index.now.weights.now index.now.order.now index.now.variables.count 0 s events.now).done }
 {
     let mut state = s;
     for (i, &event) in events.iter().enumerate() {
-        let step = step_from(index, i, state, event, before, after);
+        let step = step_from(index, i, state, event);
         let next = step.map_err(|why| Stopped { state, event, why })?;
         trace[i] = next;
         state = next;

@@ -18,7 +18,7 @@ returns-in_err-next-clause-trace_after c =
 pub loop-i-preserved : goal.loop-i-preserved
 loop-i-preserved c =
     let q = handed_ok c.step_from-step.result c.map_err.result _ c.map_err.ensures.cases _ c.in_ok-next.was in
-    (search rules, search rules, simp length-set (search rules), search run_on_answer, search run_on_trace)
+    (simp length-set (search rules), search run_on_answer, search run_on_trace)
 
 pub returns-clause-result_value : goal.returns-clause-result_value
 returns-clause-result_value c = search run_end_answer

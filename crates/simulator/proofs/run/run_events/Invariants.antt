@@ -5,7 +5,7 @@ use Rattle.simulator.proofs.run.run_events.Given as goal
 
 abbrev pub invariant-loop-i : goal.invariant-loop-i
 invariant-loop-i l =
-    (length l.before ≡ l.index.variables.count) × (length l.after ≡ l.index.variables.count) × (length l.trace ≡ length l.initial.trace)
+    (length l.trace ≡ length l.initial.trace)
     × ((run_index l.index.variables.words.now l.index.variables.places.now l.index.weights.now l.index.order.now l.index.variables.count l.i l.state (drop l.i l.events)).last
     ≡ (run_index l.index.variables.words.now l.index.variables.places.now l.index.weights.now l.index.order.now l.index.variables.count 0 l.s l.events).last)
     × (sets l.trace l.i (run_index l.index.variables.words.now l.index.variables.places.now l.index.weights.now l.index.order.now l.index.variables.count l.i l.state (drop l.i l.events)).done
