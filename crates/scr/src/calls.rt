@@ -18,10 +18,7 @@ pub fn step(index: &Index, extent: Extent, s: u32, w: u32) -> Result<u32, Refusa
     if extent.states <= s {
         return Err(Refusal::NoState(s));
     }
-    let n = index.variables.count;
-    let mut before = [0 as Value; MAX_VARIABLES];
-    let mut after = [0 as Value; MAX_VARIABLES];
-    match step_from(index, 0, s, w, &mut before[..n], &mut after[..n]) {
+    match step_from(index, 0, s, w) {
         Ok(next) => Ok(next),
         Err(why) => Err(no_step(s, w, why)),
     }

@@ -9,7 +9,7 @@ use crate::Refusal;
 use crate::refusals::no_step;
 use index::{Extent, Index};
 use simulator::run::run_events;
-use word::{MAX_EVENTS, MAX_VARIABLES, Value};
+use word::MAX_EVENTS;
 
 // The events, with room for each at the front of the lent list.
 fn perform(
@@ -23,10 +23,7 @@ fn perform(
     ensures result_value { answer_says result ≡ (run_in index.now s events.now).last }
     ensures trace_after { trace.new ≡ sets trace.old 0 (run_in index.now s events.now).done }
 {
-    let n = index.variables.count;
-    let mut before = [0 as Value; MAX_VARIABLES];
-    let mut after = [0 as Value; MAX_VARIABLES];
-    match run_events(index, s, events, &mut before[..n], &mut after[..n], trace) {
+    match run_events(index, s, events, trace) {
         Ok(last) => Ok(last),
         Err(stopped) => Err(no_step(stopped.state, stopped.event, stopped.why)),
     }
