@@ -39,6 +39,7 @@ fn read_table(set: &Variables, at: usize, before: usize) -> Result<usize, Fault>
 
 // The tables from `at` on, in rising number of their variables. The place of each one's first row goes to the entry of the variable that it
 // defines. A variable has one table, so that there are n at most: one too many is refused for what is wrong with it, else by 5.
+// The places are written between one table and the next, so that the set is put together anew for each.
 #[tactic(auto, using(crate::proofs::TableLaws::tables_laws))]
 pub fn read_tables(words: &[u32], places: &mut [usize], n: usize, at: usize) -> Result<usize, Fault>
     requires { (length places.old ≡ place_count) × (n ≤ Max.max_variables) }

@@ -13,7 +13,7 @@ use index::{Extent, Variables};
 use order::order_tables;
 use reader::read_typed;
 
-// How far the set goes; `places`, `weights` and `order` are written. Nothing is said of them after a refusal.
+// How far the set goes. The three lists are the caller's: there is no heap. `places`, `weights` and `order` are written. Nothing is said of them after a refusal.
 #[tactic(auto, using(crate::proofs::Laws::set_laws))]
 pub fn read_set(
     words: &[u32],
