@@ -9,7 +9,6 @@ use Rattle.meaning.specs.Searches.{list_of}
 use Rattle.meaning.specs.Steps.{Input, input_of}
 use Rattle.meaning.specs.Reading.{word}
 use Rattle.meaning.specs.States.{Values}
-use Rattle.theory.specs.Numbers.{length_list_of}
 use Rattle.judge.specs.declared.Got.{Got}
 use Rattle.judge.specs.declared.Got.TheVariants.{Nothing, One, Two}
 use Rattle.judge.specs.Judge.{condition_rows_at, event_rows_at}
@@ -121,14 +120,6 @@ module _ (f : Values → ℕ → Given) (os b : List ℕ) (i : ℕ) (all : Walk)
     pub walk_on : (k : ℕ) (c : List ℕ) → g ≡ Ok k → c ≡ set b (get_or os i 0) k → walk f (drop (i + 1) os) c ≡ all
     unfolding onward
     walk_on k c e ec = rw ec (rw e at walk_turn)
-
--- ---- values of a state, whole
-pub values_are : (ws ps us : List ℕ) (s : ℕ) (os b c : List ℕ) (k : ℕ) (r : Settled) → b ≡ list_of (digit_at ws ps us s) k
-    → joined r c ≡ state_walk ws ps us s os b → joined r c ≡ state_walk ws ps us s os (list_of (digit_at ws ps us s) k)
-values_are ws ps us s os b c k r eb e = e ∙ ap (state_walk ws ps us s os) eb
-
-pub values_long : (f : ℕ → ℕ) (b c : List ℕ) (k : ℕ) → b ≡ list_of f k → length c ≡ length b → length c ≡ k
-values_long f b c k eb e = e ∙ ap length eb ∙ length_list_of f k
 
 -- ---- the front of a lent list
 pub front_is : (from out b : List ℕ) → length from ≤ length out → b ≡ from → b ++ drop (length from) out ≡ sets out 0 from
