@@ -1,9 +1,8 @@
 // Masks of variables: bit v of a mask stands for variable v.
-ghost use Rattle.std.specs.Prelude.{◌≡◌, ◌<◌, get_or};
+ghost use Rattle.std.specs.Prelude.{◌≡◌, ◌<◌};
 ghost use Rattle.word.specs.Limits as Max;
 ghost use Rattle.index.specs.Bits.{bit_in, one_bit};
 
-use crate::number_at;
 use word::MAX_VARIABLES;
 
 // The mask of variable v alone; none past the last variable, as for the class of a table without one.
@@ -21,11 +20,4 @@ pub fn bit(m: u32, b: usize) -> bool
     ensures { result ≡ bit_in m b }
 {
     (m >> b) & 1 == 1
-}
-
-// The mask that is kept of v.
-pub fn mask_of(masks: &[u32], v: usize) -> u32
-    ensures { result ≡ get_or masks.now v 0 }
-{
-    number_at(masks, v)
 }
