@@ -3,12 +3,13 @@
 // stand where they speak of the entry.
 #![tactic(auto)]
 
-mod calls; // what is done once the set has been read
 mod opening; // reading the set
 mod refusals; // making refusals
 mod runs; // a run of a set that reads
+mod stepping; // a step of a set that reads
 pub mod telling; // a refusal as numbers
 pub mod told; // a number with what it carries
+mod valuing; // the values of a state of a set that reads
 mod verdicts; // the verdict of a set that reads
 
 ghost use Rattle.std.specs.Prelude.{◌≡◌, ℕ, length};
@@ -131,7 +132,7 @@ pub fn step(words: &[u32], state: u32, event: u32) -> Result<u32, Refusal>
     ensures steps_exactly { StepsExactly words.now state event result }
 {
     let opened = open(words)?;
-    calls::step(&opened.index(words), opened.extent, state, event)
+    stepping::step(&opened.index(words), opened.extent, state, event)
 }
 
 // The events in turn from a state on. The state after each event done is written to the lent list from the place on, and the last is given;
@@ -168,7 +169,7 @@ pub fn values(words: &[u32], state: u32, out: &mut [Value]) -> Result<usize, Ref
     ensures values_exactly { ValuesExactly words.now state out.old result out.new }
 {
     let opened = open(words)?;
-    calls::values(&opened.index(words), opened.extent, state, out)
+    valuing::values(&opened.index(words), opened.extent, state, out)
 }
 
 // The rows of a variable's table, as a part of the caller's words: those that reading the table took, its table word first; the empty part

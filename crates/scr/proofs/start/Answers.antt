@@ -18,5 +18,5 @@ returns-in_err-opened c =
 
 pub returns : goal.returns
 returns c =
-    let v = rw c.index.ensures.words_value at (start_state _ _ c.index.ensures.index_of _ c.initial_state.ensures) in
+    let v = rw c.index.ensures.words_value at (start_state _ _ c.index.ensures.index_of c.initial_state.result (search rules)) in
     record { result_value = v; answers_or_refuses = start_demand _ _ v; starts_exactly = starts_exactly _ _ v }

@@ -1,5 +1,5 @@
 use Rattle.scr.proofs.Calling.{unsettled_count, unsettled_kept, done_count, done_written}
-use Rattle.scr.proofs.calls.examine.Goals as goal
+use Rattle.scr.proofs.valuing.examine.Goals as goal
 
 pub returns-in-Err : goal.returns-in-Err
 returns-in-Err c = record { result_value = search unsettled_count; out_after = search unsettled_kept }

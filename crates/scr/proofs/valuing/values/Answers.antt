@@ -1,5 +1,5 @@
 use Rattle.scr.proofs.Calling.{count_room, kept_room, count_no_state, kept_no_state}
-use Rattle.scr.proofs.calls.values.Goals as goal
+use Rattle.scr.proofs.valuing.values.Goals as goal
 
 pub returns-then-out-n : goal.returns-then-out-n
 returns-then-out-n c = record { result_value = search count_room; out_after = search kept_room }

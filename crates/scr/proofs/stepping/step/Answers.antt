@@ -1,7 +1,7 @@
 use Rattle.std.proofs.Common.{rules}
 use Rattle.scr.proofs.Indexing.{index_few}
 use Rattle.scr.proofs.Calling.{step_no_state, step_done, step_refused}
-use Rattle.scr.proofs.calls.step.Goals as goal
+use Rattle.scr.proofs.stepping.step.Goals as goal
 
 pub returns-then-extent-s : goal.returns-then-extent-s
 returns-then-extent-s c = search step_no_state

@@ -1,28 +1,14 @@
-// What the entries do once the set has been read, by its index.
+// The values of a state of a set that reads, by its index.
 ghost use Rattle.std.specs.Prelude.{◌≡◌, ℕ, ◌<◌, ◌≤◌, length};
 ghost use Rattle.meaning.specs.Calls.{values_of, lent_values};
-ghost use Rattle.meaning.specs.Steps.{step_of};
 ghost use Rattle.scr.specs.Answers.{answer_says, count_of};
 ghost use Rattle.scr.specs.Opened.{IndexOf};
 
-use crate::refusals::{no_step, unsettled};
+use crate::refusals::unsettled;
 use crate::{Input, Refusal};
 use index::{Extent, Index};
-use simulator::{step_from, values_in, write_front};
+use simulator::{values_in, write_front};
 use word::{MAX_VARIABLES, Value};
-
-pub fn step(index: &Index, extent: Extent, s: u32, w: u32) -> Result<u32, Refusal>
-    requires { IndexOf index.now extent }
-    ensures { answer_says result ≡ step_of index.now.variables.words.now s w }
-{
-    if extent.states <= s {
-        return Err(Refusal::NoState(s));
-    }
-    match step_from(index, 0, s, w) {
-        Ok(next) => Ok(next),
-        Err(why) => Err(no_step(s, w, why)),
-    }
-}
 
 // The state is examined in a list of its own, so that a refusal writes nothing to the lent one.
 fn examine(

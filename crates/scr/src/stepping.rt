@@ -1,0 +1,23 @@
+// A step of a set that reads, by its index.
+ghost use Rattle.std.specs.Prelude.{◌≡◌};
+ghost use Rattle.meaning.specs.Steps.{step_of};
+ghost use Rattle.scr.specs.Answers.{answer_says};
+ghost use Rattle.scr.specs.Opened.{IndexOf};
+
+use crate::Refusal;
+use crate::refusals::no_step;
+use index::{Extent, Index};
+use simulator::step_from;
+
+pub fn step(index: &Index, extent: Extent, s: u32, w: u32) -> Result<u32, Refusal>
+    requires { IndexOf index.now extent }
+    ensures { answer_says result ≡ step_of index.now.variables.words.now s w }
+{
+    if extent.states <= s {
+        return Err(Refusal::NoState(s));
+    }
+    match step_from(index, 0, s, w) {
+        Ok(next) => Ok(next),
+        Err(why) => Err(no_step(s, w, why)),
+    }
+}
