@@ -7,7 +7,7 @@ use native.Mathlib.Omega.{arith}
 use native.Mathlib.Numerals.{add-one}
 use native.Mathlib.Nat.{sub-zero}
 use lib.ListN.{length, get_or, take, drop, drop_of_length-le, length-append}
-use lib.Seq.{take-suc, take_all, drop-cons, drop-drop, sets-eq}
+use lib.Seq.{drop-cons, drop-drop, sets-eq}
 use Rattle.word.specs.Fields as W
 use Rattle.word.specs.Limits as Max
 use Rattle.meaning.specs.Reading.{word}

@@ -1,7 +1,6 @@
 -- Laws of the calls by the index of a set, one for each way out.
 use Rattle.std.specs.Prelude.{Ok, Err}
 use mathlib.Core.Path.{◌≡◌, sym, ap, ◌∙◌}
-use mathlib.Core.Bool.{true, false}
 use mathlib.Core.List.{List, [], ◌∷◌}
 use Prim.Native.Nat.{ℕ, ◌%◌, ◌≤◌, ◌<◌}
 use native.Mathlib.Omega.{arith}
@@ -29,7 +28,7 @@ use Rattle.scr.specs.declared.Refusal.{Refusal}
 use Rattle.scr.specs.declared.Refusal.TheVariants as R
 use Rattle.index.specs.declared.variables.Extent.{Extent}
 use Rattle.index.specs.declared.variables.Index.{Index}
-use Rattle.scr.specs.Answers.{Answer, refusal_says, refused, answer_says, count_of}
+use Rattle.scr.specs.Answers.{refusal_says, refused, answer_says, count_of}
 use Rattle.scr.specs.Opened.{IndexOf}
 use Rattle.scr.proofs.Refusing.{refused_says}
 use Rattle.scr.proofs.Indexing.{well, few, typed_state, no_state}

@@ -1,4 +1,3 @@
-use Rattle.std.proofs.Common.{rules}
 use Rattle.std.proofs.lemmas.Result.{err_from_is_err_and}
 use Rattle.set.proofs.Laws.{set_cycle, set_all}
 use Rattle.set.proofs.read_set.Goals as goal

@@ -1,4 +1,3 @@
-use Rattle.std.proofs.Common.{rules}
 use Rattle.std.proofs.lemmas.Result.{err_from_is_err_and}
 use Rattle.scr.proofs.Reading.{open_refused, open_set}
 use Rattle.scr.proofs.opening.open.Goals as goal

@@ -1,5 +1,3 @@
-use Rattle.std.proofs.Common.{rules}
-use Rattle.scr.proofs.Indexing.{index_few}
 use Rattle.scr.proofs.Calling.{step_no_state, step_done, step_refused}
 use Rattle.scr.proofs.stepping.step.Goals as goal
 
