@@ -1,7 +1,7 @@
 use Rattle.std.proofs.Common.{rules}
 use Rattle.std.proofs.lemmas.Result.{err_from_is_err_and}
 use Rattle.simulator.specs.declared.NoStep.TheVariants.{After}
-use Rattle.simulator.proofs.Handed.{handed_err, handed_ok}
+use Rattle.word.proofs.Handed.{handed_err, handed_ok}
 use Rattle.simulator.proofs.Laws.{after_fault, after_done}
 use Rattle.simulator.proofs.step_after.Goals as goal
 

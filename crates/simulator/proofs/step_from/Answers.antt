@@ -1,7 +1,7 @@
 use Rattle.std.proofs.Common.{rules, length-take-le}
 use Rattle.std.proofs.lemmas.Result.{err_from_is_err_and}
 use Rattle.simulator.specs.declared.NoStep.TheVariants.{Before}
-use Rattle.simulator.proofs.Handed.{handed_err, handed_ok}
+use Rattle.word.proofs.Handed.{handed_err, handed_ok}
 use Rattle.simulator.proofs.Laws.{not_enabled, from_fault, from_done}
 use Rattle.simulator.proofs.step_from.Goals as goal
 

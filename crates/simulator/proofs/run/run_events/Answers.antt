@@ -1,6 +1,6 @@
 use Rattle.std.proofs.Common.{rules, get_or, length-set}
 use Rattle.std.proofs.lemmas.Result.{err_from_is_err_and}
-use Rattle.simulator.proofs.Handed.{handed_err, handed_ok}
+use Rattle.word.proofs.Handed.{handed_err, handed_ok}
 use Rattle.simulator.proofs.Running.{run_end_answer, run_end_trace, run_on_answer, run_on_trace, run_stop_answer, run_stop_trace}
 use Rattle.simulator.proofs.run.run_events.Goals as goal
 

@@ -1,6 +1,6 @@
 use Rattle.std.proofs.Common.{rules, get_or}
 use Rattle.std.proofs.lemmas.Result.{err_from_is_err_and}
-use Rattle.simulator.proofs.Handed.{handed_err, handed_ok}
+use Rattle.word.proofs.Handed.{handed_err, handed_ok}
 use Rattle.simulator.proofs.Laws.{walk_end, walk_stop, walk_on}
 use Rattle.simulator.proofs.settle.settle.Goals as goal
 
