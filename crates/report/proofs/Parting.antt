@@ -1,36 +1,35 @@
 -- Laws of the parts of a list of words.
-use mathlib.Core.Path.{◌≡◌, sym, ◌∙◌}
-use mathlib.Core.Bool.{Bool, true, false}
-use mathlib.Core.Option.{none}
-use mathlib.Core.List.{List}
-use Prim.Native.Nat.{ℕ, ◌+◌, ◌-◌, ◌≤◌, ◌<◌}
-use native.Mathlib.Omega.{arith}
+use Rattle.std.specs.Prelude.{ℕ, ◌-◌, ◌≤◌, ◌<◌, ◌≡◌, Bool, List, eqb, length, take, drop, get_or, unwrap_or}
+use Rattle.std.specs.Prelude as R
+use Rattle.std.proofs.Common.{sym, arith}
+use Rattle.std.proofs.Math.Option.{Option}
 use native.Mathlib.Nat.{sub-zero}
-use lib.Dec.{eqb}
-use lib.ListN.{length, take, drop, length-take}
+use lib.ListN.{length-take}
 use lib.Seq.{take_all}
 use Rattle.word.specs.Fields as W
-use Rattle.meaning.specs.Searches.{least}
+use Rattle.meaning.specs.Searches.{least, or_else}
 use Rattle.meaning.specs.Reading.{word}
 use Rattle.meaning.specs.Program.{first_event}
-use Rattle.theory.specs.Found.{least_on, least_found, least_none}
-use Rattle.report.specs.Input.{is_event}
+use Rattle.theory.specs.Found.{LeastView, absent, found, least_view}
+use Rattle.index.specs.Search.{found_of}
+use Rattle.index.proofs.Searching.{unwrap_found}
 
-pub is_event_is : (ws : List ℕ) (i w k : ℕ) → w ≡ word ws i → k ≡ W.kind w → eqb k 11 ≡ is_event ws i
-unfolding is_event
-is_event_is ws i w k ew ek = rw (ek, ew)
+-- ---- the first event
+least_most : (f : ℕ → Bool) (n : ℕ) → or_else (least f n) n ≤ n
+unfolding or_else
+least_most f n = go (least_view f n)
+  where
+    go : {o : Option ℕ} → LeastView f n o → or_else o n ≤ n
+    go (absent h) = omega arith
+    go (found k l t h) = omega arith
 
-module _ (ws : List ℕ) (i : ℕ) (inv : least (is_event ws) i ≡ none) where
-  pub event_here : (b : Bool) → i < length ws → b ≡ is_event ws i → b ≡ true → i ≡ first_event ws
-  unfolding first_event is_event
-  event_here b h eb t = sym (least_found (is_event ws) (length ws) i h inv (sym eb ∙ t))
+module _ (ws : List ℕ) (r : ℕ) (o : R.Option ℕ) (e : o ≡ found_of (least (λ k. eqb (W.kind (get_or ws k 0)) 11) (length ws))) (u : r ≡ unwrap_or o (length ws)) where
+  pub event_is : r ≡ first_event ws
+  unfolding first_event word
+  event_is = rw (u, e, unwrap_found)
 
-  pub event_on : (b : Bool) → b ≡ is_event ws i → b ≡ false → least (is_event ws) (i + 1) ≡ none
-  event_on b eb t = least_on (is_event ws) i inv (sym eb ∙ t)
-
-  pub event_none : i ≤ length ws → length ws ≤ i → length ws ≡ first_event ws
-  unfolding first_event is_event
-  event_none h k = sym (least_none (is_event ws) (length ws) i h k inv)
+  pub event_most : r ≤ length ws
+  event_most = rw (u, e, unwrap_found) (least_most _ _)
 
 -- ---- the front
 pub front_all : (ws : List ℕ) (n : ℕ) → length ws < n → ws ≡ take n ws

@@ -1,15 +1,14 @@
 // Parts of lists of words.
-ghost use Rattle.std.specs.Prelude.{◌≡◌, ℕ, ◌≤◌, length, take};
+ghost use Rattle.std.specs.Prelude.{◌≡◌, ℕ, ◌≤◌, eqb, length, take};
+ghost use Rattle.word.specs.Fields as W;
 ghost use Rattle.meaning.specs.Program.{first_event};
-ghost use Rattle.report.specs.Input.{is_event};
 
-use index::word_at;
 use word::{Kind, kind};
 
-fn is_event(words: &[u32], i: usize) -> bool
-    ensures { result ≡ is_event words.now i }
+fn is_event(word: u32) -> bool
+    ensures { result ≡ eqb (W.kind word) 11 }
 {
-    kind(word_at(words, i)) == Kind::InputEvent as u32
+    kind(word) == Kind::InputEvent as u32
 }
 
 // The place of the first word of kind 11, or the number of words.
@@ -17,12 +16,10 @@ pub fn first_event(words: &[u32]) -> usize
     ensures value { result ≡ first_event words.now }
     ensures upper_bound { result ≤ length words.now }
 {
-    for i in 0..words.len() {
-        if is_event(words, i) {
-            return i;
-        }
-    }
-    words.len()
+    words
+        .iter()
+        .position(|word| is_event(*word))
+        .unwrap_or(words.len())
 }
 
 // The first n words; all of them if there are fewer.

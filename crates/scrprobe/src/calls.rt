@@ -51,7 +51,7 @@ pub fn run<W: Write>(
     out: &mut W,
 ) -> io::Result<()> {
     let mut lent = vec![in alloc; u32::MAX; room.min(MAX_STATES_LENT)]?;
-    text::state(out, scr::run(set, state, events, &mut lent, place))?;
+    text::answer(out, "STATE", scr::run(set, state, events, &mut lent, place))?;
     text::list(out, &lent)
 }
 
@@ -64,7 +64,7 @@ pub fn values<W: Write>(
     out: &mut W,
 ) -> io::Result<()> {
     let mut lent = vec![in alloc; 238; room.min(MAX_VALUES_LENT)]?;
-    text::count(out, scr::values(set, state, &mut lent))?;
+    text::answer(out, "VALUES", scr::values(set, state, &mut lent))?;
     text::list(out, &lent)
 }
 

@@ -29,8 +29,8 @@ fn probe<W: Write>(alloc: Global, input: &Input, out: &mut W) -> io::Result<()> 
     let first = input.argument(0);
     let second = input.argument(1);
     match Entry::try_from(input.entry) {
-        Ok(Entry::Start) => text::state(out, scr::start(set)),
-        Ok(Entry::Step) => text::state(out, scr::step(set, first, second)),
+        Ok(Entry::Start) => text::answer(out, "STATE", scr::start(set)),
+        Ok(Entry::Step) => text::answer(out, "STATE", scr::step(set, first, second)),
         Ok(Entry::Run) => {
             let room = input.argument(2) as usize;
             calls::run(

@@ -9,16 +9,14 @@ fn refusal<W: Write>(out: &mut W, why: Refusal) -> io::Result<()> {
     writeln!(out, "REFUSE {}", tell(why))
 }
 
-pub fn state<W: Write>(out: &mut W, answer: Result<u32, Refusal>) -> io::Result<()> {
+// A name and what was answered, or the refusal.
+pub fn answer<W: Write, T: Display + Copy>(
+    out: &mut W,
+    name: &str,
+    answer: Result<T, Refusal>,
+) -> io::Result<()> {
     match answer {
-        Ok(state) => writeln!(out, "STATE {state}"),
-        Err(why) => refusal(out, why),
-    }
-}
-
-pub fn count<W: Write>(out: &mut W, answer: Result<usize, Refusal>) -> io::Result<()> {
-    match answer {
-        Ok(count) => writeln!(out, "VALUES {count}"),
+        Ok(answered) => writeln!(out, "{name} {answered}"),
         Err(why) => refusal(out, why),
     }
 }

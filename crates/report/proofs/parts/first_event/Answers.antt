@@ -1,17 +1,11 @@
-use borrow.Author.Rules.{rules}
-use Rattle.report.proofs.Parting.{event_here, event_on, event_none}
-use mathlib.Core.Path.{refl}
-use Rattle.meaning.specs.Searches.{least}
+use Rattle.std.specs.Prelude.{eqb}
+use Rattle.std.proofs.Common.{rules}
+use Rattle.word.specs.Fields as W
+use Rattle.index.proofs.Searching.{position_gives}
+use Rattle.report.proofs.Parting.{event_is, event_most}
 use Rattle.report.proofs.parts.first_event.Goals as goal
 
-pub loop-i-init : goal.loop-i-init
-loop-i-init c = (search rules, unfold least in refl)
-
-pub returns-then-is_event : goal.returns-then-is_event
-returns-then-is_event c = record { value = search event_here; upper_bound = search rules }
-
-pub loop-i-preserved : goal.loop-i-preserved
-loop-i-preserved c = (search rules, search event_on)
-
 pub returns : goal.returns
-returns c = record { value = search event_none; upper_bound = search rules }
+returns c =
+    let e = position_gives (λ w. eqb (W.kind w) 11) _ _ _ _ _ c.position.ensures.ran c.iter.ensures.rest (λ x b q k. search rules) in
+    record { value = event_is _ _ _ e c.unwrap_or.ensures; upper_bound = event_most _ _ _ e c.unwrap_or.ensures }
