@@ -23,6 +23,7 @@ fn perform(
     ensures result_value { answer_says result ≡ (run_in index.now s events.now).last }
     ensures trace_after { trace.new ≡ sets trace.old 0 (run_in index.now s events.now).done }
 {
+    // A closure for map_err would have to say again what no_step promises.
     match run_events(index, s, events, trace) {
         Ok(last) => Ok(last),
         Err(stopped) => Err(no_step(stopped.state, stopped.event, stopped.why)),

@@ -16,6 +16,7 @@ pub fn step(index: &Index, extent: Extent, s: u32, w: u32) -> Result<u32, Refusa
     if extent.states <= s {
         return Err(Refusal::NoState(s));
     }
+    // A closure for map_err would have to say again what no_step promises.
     match step_from(index, 0, s, w) {
         Ok(next) => Ok(next),
         Err(why) => Err(no_step(s, w, why)),
