@@ -1,14 +1,11 @@
 -- Laws of masks: one for each way out of a function, then what the bits of a mask are.
-use Prim.Native.Nat.{ℕ, zero, suc, ◌+◌, ◌*◌, ◌-◌, ◌/◌, ◌%◌, ◌^◌, ◌≤◌, ◌<◌, max}
-use mathlib.Core.Path.{◌≡◌, refl, sym, ap, ◌∙◌}
-use mathlib.Core.Bool.{◌||◌, false}
-use native.Mathlib.Omega.{arith}
-use native.Mathlib.Nat.{mod-lt, div-eq_of_lt, one-mul}
-use native.Mathlib.Decide.{dec_lt, ℕ_discrete}
-use lib.Dec.{eqb, lit<}
-use lib.Bits.{bit_and, bit_or, and_mask, or_shr, or_step, shifted_even}
-use lib.Pow.{pow_pos, pow-lt, pow-add, shl-shr, shl_exact}
-use borrow.Author.Tests.{eq-eqb, ne_eqb, lt-ltb, le-ltb}
+use Rattle.std.specs.Prelude.{ℕ, zero, suc, ◌+◌, ◌*◌, ◌-◌, ◌/◌, ◌%◌, ◌^◌, ◌≤◌, ◌<◌, max, ◌≡◌, refl, ◌||◌, false, eqb, bit_and, bit_or}
+use Rattle.std.proofs.Common.{sym, ap, ◌∙◌, arith, mod-lt, one-mul, lit<, pow_pos, pow-add, shl_exact, eq-eqb, ne_eqb, lt-ltb, le-ltb}
+use Rattle.std.proofs.Math.Decide.{dec_lt, ℕ_discrete}
+use Rattle.std.proofs.Math.Nat.{div-eq_of_lt}
+use Rattle.std.proofs.Math.Pow.{pow-lt}
+use Rattle.std.proofs.lemmas.Nat.{and_mask, or_shr, shl-shr}
+use lib.Bits.{or_step, shifted_even}
 use Rattle.word.specs.Limits as Max
 use Rattle.index.specs.Bits.{bit_in, one_bit}
 

@@ -1,11 +1,6 @@
 -- Laws of held variables and radices, one for each way out of a function.
-use mathlib.Core.Path.{◌≡◌}
-use mathlib.Core.Bool.{Bool, true, false, not}
-use mathlib.Core.List.{List}
-use Prim.Native.Nat.{ℕ, ◌-◌}
-use lib.Dec.{eqb}
-use lib.ListN.{get_or}
-use borrow.Author.Tests.{ne_eqb}
+use Rattle.std.specs.Prelude.{◌≡◌, Bool, true, false, not, List, ℕ, ◌-◌, eqb, get_or}
+use Rattle.std.proofs.Common.{ne_eqb}
 use Rattle.word.specs.Fields as W
 use Rattle.meaning.specs.Reading.{word}
 use Rattle.index.specs.Places.{head_of}

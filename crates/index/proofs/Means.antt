@@ -1,10 +1,6 @@
 -- What the index says of each variable of the set that was read.
-use mathlib.Core.Path.{◌≡◌, refl, sym, ap, ◌∙◌}
-use mathlib.Core.List.{List}
-use Prim.Native.Nat.{ℕ, zero, suc, ◌≤◌, ◌<◌}
-use native.Mathlib.Omega.{arith}
-use native.Mathlib.Numerals.{sub-one}
-use borrow.Author.Tests.{ne_eqb, eq-eqb}
+use Rattle.std.specs.Prelude.{◌≡◌, refl, List, ℕ, zero, suc, ◌≤◌, ◌<◌}
+use Rattle.std.proofs.Common.{sym, ap, ◌∙◌, arith, sub-one, ne_eqb, eq-eqb}
 use Rattle.word.specs.Fields as W
 use Rattle.meaning.specs.Answers.{if◌give◌else◌}
 use Rattle.meaning.specs.Searches.{product_below}

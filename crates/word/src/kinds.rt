@@ -1,4 +1,7 @@
-// The numbers of document 01 by name: what a word is, and what its fields say. A number that is read from a word becomes a name by `try_from`.
+// The numbers of document 01 by name: what a word is, and what its fields say. A number that is read from a word becomes a name by `try_from` where it has to be one of them. A
+// field of a word that is known to be in range is compared as a number, as in `kind(w) == Kind::Row as u32`: the definitions and the table of operand counts go by number, and in
+// the innermost loops a name would be made only to be compared.
+// The five `try_from` are alike, one arm for each name: an impl that a macro of this repository wrote would be refused.
 ghost use Rattle.word.specs.Kinds.{IsClass, IsTableType, IsRelation, IsChange, IsAssertionType};
 
 // A number that no name stands for.

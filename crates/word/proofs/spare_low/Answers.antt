@@ -1,5 +1,5 @@
 use Rattle.word.proofs.Mask.{low_below}
-use mathlib.Core.Path.{refl}
+use Rattle.std.specs.Prelude.{refl}
 use Rattle.word.proofs.spare_low.Goals as goal
 
 pub returns : goal.returns

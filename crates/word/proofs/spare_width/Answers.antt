@@ -1,5 +1,5 @@
 use Rattle.word.proofs.Mask.{width_below}
-use mathlib.Core.Path.{refl}
+use Rattle.std.specs.Prelude.{refl}
 use Rattle.word.proofs.spare_width.Goals as goal
 
 pub returns : goal.returns
