@@ -8,13 +8,14 @@ use Rattle.meaning.specs.Syntax.{TableSet}
 use Rattle.meaning.specs.Lookup.{count, is_monitored, source}
 use Rattle.meaning.specs.Reading.{variable_of}
 use Rattle.meaning.specs.States.{is_held, state_count, tabled, starts_at_zero, few_states, read_typed}
-use Rattle.index.specs.Places.{variables_to}
+use Rattle.index.specs.Places.{place_count, variables_to}
 use Rattle.index.specs.Indexed.{Indexed}
 use Rattle.index.proofs.Means.{count_is, variable_is, initial_is, held_is, weight_is}
 use Rattle.reader.specs.declared.Sections.{Sections}
+use Rattle.reader.specs.declared.counts.Counted.{Counted}
 use Rattle.reader.specs.declared.faults.Fault.{Fault}
 use Rattle.reader.specs.Counts.{tabled_at, starts_at_zero_at, few_states_at, typed_at, WeightsTo, CountedAs}
-use Rattle.reader.specs.Typed.{no_places, no_weights, ReadAs, TypedSet, TypedAs}
+use Rattle.reader.specs.Typed.{ReadAs, TypedSet, TypedAs}
 use Rattle.reader.proofs.Places.{places_have}
 
 -- ---- a search goes by what it is given
@@ -60,29 +61,31 @@ pub typed_count : {ws : List ℕ} {z : TableSet} {n a c : ℕ} {ps us : List ℕ
 typed_count t = count_is t.indexed
 
 -- ---- read_typed
-pub weights_long : (us : List ℕ) → us ≡ no_weights → length us ≡ Max.max_variables
-weights_long us e = rw e
-
-module _ (ws ps : List ℕ) (r : Result Sections Fault) (h : ReadAs ws r ps) where
-  pub read_few : (s : Sections) → r ≡ Ok s → s.variables ≤ Max.max_variables
+module _ (ws : List ℕ) (r : Result Sections Fault) (h : ReadAs ws r) where
+  pub read_few : (s : Sections) → r ≡ Ok s → s.found.count ≤ Max.max_variables
   unfolding ReadAs
   read_few s e = (rw e at h).1.few
 
-  pub typed_wrong : (us : List ℕ) (q : Fault) → r ≡ Err q → TypedAs ws (Err q) ps us
+  pub typed_wrong : (q : Fault) → r ≡ Err q → TypedAs ws (Err q)
   unfolding ReadAs TypedAs read_typed
-  typed_wrong us q e = rw (rw e at h)
+  typed_wrong q e = rw (rw e at h)
 
-  module _ (s : Sections) (er : r ≡ Ok s) (us : List ℕ) (c : Result ℕ Fault) (hc : CountedAs ws ps s.variables (typed_at ws ps s.variables) c us) where
-    pub typed_refused : (q : Fault) → c ≡ Err q → TypedAs ws (Err q) ps us
+  module _ (s : Sections) (er : r ≡ Ok s) (c : Result Counted Fault)
+      (hc : CountedAs ws s.found.places s.found.count (typed_at ws s.found.places s.found.count) c) where
+    pub typed_refused : (q : Fault) → c ≡ Err q → TypedAs ws (Err q)
     unfolding ReadAs TypedAs CountedAs
     typed_refused q e =
         let ix = (rw er at h).1 in
         typed_is ix ∙ rw (rw e at hc)
 
-    pub typed_set : (k : ℕ) (p₀ : List ℕ) → c ≡ Ok k → p₀ ≡ no_places → length ps ≡ length p₀
-        → TypedAs ws (Ok (record { variables = s.variables; assertions = s.assertions; states = k })) ps us
+    pub typed_set : (k : Counted) → c ≡ Ok k → length s.found.places ≡ place_count
+        → TypedAs ws (Ok (record {
+          extent = record { variables = s.found.count; assertions = s.assertions; states = k.states };
+          places = s.found.places;
+          weights = k.weights;
+        }))
     unfolding ReadAs TypedAs CountedAs WeightsTo state_count
-    typed_set k p₀ e e₀ el =
+    typed_set k e long =
         let z = rw er at h in
         let ix = z.1 in
         let w = rw e at hc in (
@@ -90,11 +93,11 @@ module _ (ws ps : List ℕ) (r : Result Sections Fault) (h : ReadAs ws r ps) whe
           record {
             typed = typed_is ix ∙ rw w.0;
             indexed = ix;
-            places_long = rw e₀ at el;
+            places_long = long;
             weights_long = w.1.long;
             weights_are = λ v l. w.1.weights v l ∙ weight_is ix v (omega arith);
-            states_are = rw (count_is ix) (w.1.states ∙ weight_is ix s.variables (omega arith));
+            states_are = rw (count_is ix) (w.1.states ∙ weight_is ix s.found.count (omega arith));
           },
         )
 
-pub ruleset typed_laws = (weights_long, read_few, typed_wrong, typed_refused, typed_set)
+pub ruleset typed_laws = (read_few, typed_wrong, typed_refused, typed_set)

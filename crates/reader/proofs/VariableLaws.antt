@@ -1,5 +1,5 @@
 -- Laws of read_variables, one for each way out. What is left to read from here is the whole reading.
-use Rattle.std.specs.Prelude.{◌≡◌, Bool, true, false, not, List, [], ℕ, zero, suc, ◌+◌, ◌-◌, ◌≤◌, ◌<◌, eqb, length, set, Result, Ok, Err}
+use Rattle.std.specs.Prelude.{◌≡◌, Bool, true, false, not, List, [], ℕ, zero, suc, ◌+◌, ◌-◌, ◌≤◌, ◌<◌, eqb, length, get_or, replicate, set, Ok, Err}
 use Rattle.std.proofs.Common.{sym, ◌∙◌, arith, add-one, get_or-set_same, get_or-set_other, ne_eqb, eq-eqb}
 use Rattle.std.proofs.lemmas.List.{get_or-replicate}
 use borrow.Author.Tests.{not-true, not-false}
@@ -11,19 +11,16 @@ use Rattle.meaning.specs.Reading.{word, variable_ok, read_variables}
 use Rattle.theory.specs.Loops.{left}
 use Rattle.index.specs.Places.{place_count, head_of, variables_to}
 use Rattle.index.proofs.Laws.{variables_same}
-use Rattle.reader.specs.declared.faults.Fault.{Fault}
+use Rattle.reader.specs.declared.found.Found.{Found}
 use Rattle.reader.specs.declared.faults.Fault.TheVariants.{Range, Limit}
 use Rattle.reader.specs.Faults.{refusal, carried}
 use Rattle.reader.specs.Variables.{NoTables, VariablesAs}
-use Rattle.reader.specs.Typed.{no_places}
+use Rattle.reader.proofs.TestLaws.{kind_past}
 
 -- ---- the places as they come, and with one more
-pub places_long : (ps : List ℕ) → ps ≡ no_places → length ps ≡ place_count
-places_long ps e = rw e
-
-pub places_none : (ps : List ℕ) → ps ≡ no_places → NoTables ps
+pub places_none : NoTables (replicate place_count 0)
 unfolding NoTables
-places_none ps e v h = let z : ℕ = 0 in rw e (get_or-replicate place_count v z z (let l : v < place_count = omega arith in l))
+places_none v h = let z : ℕ = 0 in get_or-replicate place_count v z z (let l : v < place_count = omega arith in l)
 
 pub no_tables_on : (ps : List ℕ) (i x : ℕ) → NoTables ps → NoTables (set ps (Max.max_variables + i) x)
 unfolding NoTables
@@ -66,59 +63,58 @@ module _ (ws : List ℕ) where
 
   module _ (ps : List ℕ) (i : ℕ)
       (inv : read_variables ws (Max.max_variables - i) i (variables_to ws ps i) ≡ read_variables ws Max.max_variables 0 []) where
-    pub variables_end : (w k : ℕ) → i ≤ Max.max_variables → length ps ≡ place_count → NoTables ps → w ≡ word ws i → k ≡ W.kind w
-        → (k ≡ 1 → ⊥) → VariablesAs ws ps (Ok i)
+    -- f is what has been found where the variables end
+    ending : (f : Found) → f.places ≡ ps → f.count ≡ i → i ≤ Max.max_variables → length ps ≡ place_count → NoTables ps
+        → eqb (W.kind (word ws i)) 1 ≡ false → VariablesAs ws (Ok f)
     unfolding VariablesAs
-    variables_end w k h len none ew ek n = record {
-      variables_read = sym inv ∙ ended (Max.max_variables - i) i (variables_to ws ps i) (rw (← ew, ← ek) (ne_eqb k 1 n));
+    ending f ep ei h len none e = rw (ep, ei) (record {
+      variables_read = sym inv ∙ ended (Max.max_variables - i) i (variables_to ws ps i) e;
       few = h;
       long = len;
       no_tables = none;
-    }
+    })
 
-    module _ (w k : ℕ) (b : Bool) (h : i < Max.max_variables) (ew : w ≡ word ws i) (ek : k ≡ W.kind w) (e1 : k ≡ 1)
-        (eb : b ≡ variable_ok w) where
-      pub variables_bad : not b ≡ true → VariablesAs ws ps (Err (Range i))
+    pub variables_past : (f : Found) → f.places ≡ ps → f.count ≡ length ws → i ≤ length ws → i ≤ Max.max_variables → length ps ≡ place_count → NoTables ps → length ws ≤ i → VariablesAs ws (Ok f)
+    variables_past f ep en l h len none past =
+        let e : f.count ≡ i = omega arith in
+        ending f ep e h len none (rw (kind_past ws i past))
+
+    -- the word at i, as a loop over the words has it, is of kind k
+    module _ (k : ℕ) (ek : k ≡ W.kind (get_or ws i 0)) where
+      kind_is : (b : Bool) → eqb k 1 ≡ b → eqb (W.kind (word ws i)) 1 ≡ b
+      unfolding word
+      kind_is b e = rw (← ek) e
+
+      pub variables_end : (f : Found) → f.places ≡ ps → f.count ≡ i → i ≤ Max.max_variables → length ps ≡ place_count → NoTables ps
+          → (k ≡ 1 → ⊥) → VariablesAs ws (Ok f)
+      variables_end f ep ei h len none n = ending f ep ei h len none (kind_is false (ne_eqb k 1 n))
+
+      pub variables_over : k ≡ 1 → i ≡ Max.max_variables → VariablesAs ws (Err (Limit i))
       unfolding VariablesAs refusal carried
-      variables_bad n =
-          sym (rw (left Max.max_variables i h) at inv)
-          ∙ out_of_range (Max.max_variables - (i + 1)) i (variables_to ws ps i) (rw (← ew, ← ek) (eq-eqb k 1 e1)) (rw (← ew, ← eb) (not-true b n))
+      variables_over e1 e =
+          let f : eqb (W.kind (word ws Max.max_variables)) 1 ≡ true = rw e at (kind_is true (eq-eqb k 1 e1)) in
+          rw e (sym (rw e at inv) ∙ one_over Max.max_variables (variables_to ws ps Max.max_variables) f)
 
-      pub variables_on : length ps ≡ place_count → not b ≡ false
-          → read_variables ws (Max.max_variables - (i + 1)) (i + 1) (variables_to ws (set ps (Max.max_variables + i) i) (i + 1))
-          ≡ read_variables ws Max.max_variables 0 []
-      variables_on len n =
-          rw (add-one i)
-          (sym (one_more ps (Max.max_variables - suc i) i h len (rw (← ew, ← ek) (eq-eqb k 1 e1)) (rw (← ew, ← eb) (not-false b n)))
-          ∙ (rw (left Max.max_variables i h, add-one i) at inv))
+      module _ (b : Bool) (e1 : k ≡ 1) (few : i ≤ Max.max_variables) (more : i ≡ Max.max_variables → ⊥) (eb : b ≡ variable_ok (get_or ws i 0)) where
+        h : i < Max.max_variables
+        h = omega (arith, more)
 
-    module _ (w k : ℕ) (most : i ≤ Max.max_variables) (all : Max.max_variables ≤ i) (ew : w ≡ word ws Max.max_variables) (ek : k ≡ W.kind w) where
-      pub variables_over : k ≡ 1 → VariablesAs ws ps (Err (Limit Max.max_variables))
-      unfolding VariablesAs refusal carried
-      variables_over e1 =
-          let e : i ≡ Max.max_variables = omega arith in
-          sym (rw e at inv) ∙ one_over Max.max_variables (variables_to ws ps Max.max_variables) (rw (← ew, ← ek) (eq-eqb k 1 e1))
+        fields_are : (x : Bool) → b ≡ x → variable_ok (word ws i) ≡ x
+        unfolding word
+        fields_are x e = rw (← eb) e
 
-      pub variables_all : length ps ≡ place_count → NoTables ps → (k ≡ 1 → ⊥)
-          → VariablesAs ws ps (Ok Max.max_variables)
-      unfolding VariablesAs
-      variables_all len none n =
-          let e : i ≡ Max.max_variables = omega arith in
-          record {
-            variables_read = sym (rw e at inv) ∙ ended 0 Max.max_variables (variables_to ws ps Max.max_variables) (rw (← ew, ← ek) (ne_eqb k 1 n));
-            few = omega arith;
-            long = len;
-            no_tables = none;
-          }
+        pub variables_bad : not b ≡ true → VariablesAs ws (Err (Range i))
+        unfolding VariablesAs refusal carried
+        variables_bad n =
+            sym (rw (left Max.max_variables i h) at inv)
+            ∙ out_of_range (Max.max_variables - (i + 1)) i (variables_to ws ps i) (kind_is true (eq-eqb k 1 e1)) (fields_are false (not-true b n))
 
--- ---- what the answer says
-module _ (ws ps : List ℕ) (n : ℕ) (v : Result ℕ Fault) (h : VariablesAs ws ps v) (e : v ≡ Ok n) where
-  pub variables_few : n ≤ Max.max_variables
-  unfolding VariablesAs
-  variables_few = (rw e at h).few
+        pub variables_on : length ps ≡ place_count → not b ≡ false
+            → read_variables ws (Max.max_variables - (i + 1)) (i + 1) (variables_to ws (set ps (Max.max_variables + i) i) (i + 1))
+            ≡ read_variables ws Max.max_variables 0 []
+        variables_on len n =
+            rw (add-one i)
+            (sym (one_more ps (Max.max_variables - suc i) i h len (kind_is true (eq-eqb k 1 e1)) (fields_are true (not-false b n)))
+            ∙ (rw (left Max.max_variables i h, add-one i) at inv))
 
-  pub variables_long : length ps ≡ place_count
-  unfolding VariablesAs
-  variables_long = (rw e at h).long
-
-pub ruleset variables_laws = (places_long, places_none, no_tables_on, variables_end, variables_bad, variables_on, variables_over, variables_all)
+pub ruleset variables_laws = (places_none, no_tables_on, variables_end, variables_past, variables_bad, variables_on, variables_over)

@@ -1,10 +1,11 @@
--- What the answer of read_variables and what it wrote say together.
+-- What the answer of read_variables says.
 use Rattle.std.specs.Prelude.{ℕ, ◌≤◌, ◌<◌, ◌≡◌, List, [], length, get_or, Result, Ok, Err}
 use Rattle.word.specs.Limits as Max
 use Rattle.meaning.specs.Answers.{fine, stop}
 use Rattle.meaning.specs.Reading.{read_variables}
 use Rattle.index.specs.Places.{place_count, variables_to}
 use Rattle.reader.specs.declared.faults.Fault.{Fault}
+use Rattle.reader.specs.declared.found.Found.{Found}
 use Rattle.reader.specs.Faults.{refusal, carried}
 
 -- no table has been read
@@ -18,7 +19,7 @@ pub record VariablesRead (ws ps : List ℕ) (n i : ℕ) : Type 0 where
   pub long : length ps ≡ place_count
   pub no_tables : NoTables ps
 
--- the answer is the number of variables, which is the place after them too
-unfoldable pub VariablesAs : List ℕ → List ℕ → Result ℕ Fault → Type 0
-VariablesAs ws ps (Ok n) = VariablesRead ws ps n n
-VariablesAs ws ps (Err f) = read_variables ws Max.max_variables 0 [] ≡ stop (refusal f) (carried f)
+-- the number of variables is the place after them too
+unfoldable pub VariablesAs : List ℕ → Result Found Fault → Type 0
+VariablesAs ws (Ok f) = VariablesRead ws f.places f.count f.count
+VariablesAs ws (Err f) = read_variables ws Max.max_variables 0 [] ≡ stop (refusal f) (carried f)

@@ -1,12 +1,12 @@
 // Tables with their rows.
-ghost use Rattle.std.specs.Prelude.{◌≡◌, ◌≤◌, length};
-ghost use Rattle.word.specs.Limits as Max;
+ghost use Rattle.std.specs.Prelude.{◌≡◌};
 ghost use Rattle.reader.specs.Known.{known};
-ghost use Rattle.index.specs.Places.{place_count, variables_to, reach, told};
+ghost use Rattle.index.specs.Places.{variables_to, reach, told};
 ghost use Rattle.reader.specs.Faults.{reached};
 ghost use Rattle.reader.specs.Tables.{next_place, read_places};
 
 use crate::faults::Fault;
+use crate::found::Found;
 use crate::headings::{heading_fits, read_heading};
 use crate::rows::read_rows;
 use crate::tests::fits_kind;
@@ -37,18 +37,19 @@ fn read_table(set: &Variables, at: usize, before: usize) -> Result<usize, Fault>
     read_rows(set, heading, at + 1)
 }
 
-// The tables from `at` on, in rising number of their variables. The place of each one's first row goes to the entry of the variable that it
-// defines. A variable has one table, so that there are n at most: one too many is refused for what is wrong with it, else by 5.
-// The places are written between one table and the next, so that the set is put together anew for each.
+// The tables, which stand right behind the variables, in rising number of the variables that they define. The place of each one's first row goes to the entry
+// of its variable. A variable has one table, so that there are no more tables than variables: one too many is refused for what is wrong with it, else by 5.
 #[tactic(auto, using(crate::proofs::TableLaws::tables_laws))]
-pub fn read_tables(words: &[u32], places: &mut [usize], n: usize, at: usize) -> Result<usize, Fault>
-    requires { (length places.old ≡ place_count) × (n ≤ Max.max_variables) }
-    ensures places_after { told (reached result) places.new ≡ read_places words.now (variables_to words.now places.old n) n at places.old 0 }
-    ensures n_unchanged { variables_to words.now places.new n ≡ variables_to words.now places.old n }
+pub fn read_tables(words: &[u32], found: &mut Found) -> Result<usize, Fault>
+    ensures places_after { told (reached result) found.new.places ≡ read_places words.now (variables_to words.now found.old.places found.old.count) found.old.count found.old.count found.old.places 0 }
+    ensures variables_unchanged { variables_to words.now found.new.places found.old.count ≡ variables_to words.now found.old.places found.old.count }
+    ensures count_unchanged { found.new.count ≡ found.old.count }
 {
-    let mut on = at;
+    let n = found.count;
+    let mut on = n;
     let mut before = 0;
-    for i in 0..n {
+    // The next table stands where the rows of the one before end, so the tables are no list to go over.
+    for _ in 0..n {
         if words.len() <= on {
             return Ok(on);
         }
@@ -58,12 +59,12 @@ pub fn read_tables(words: &[u32], places: &mut [usize], n: usize, at: usize) -> 
         }
         let set = Variables {
             words,
-            places: &places[..],
+            places: &found.places,
             count: n,
         };
         let next = read_table(&set, on, before)?;
         let v = defined(w) as usize;
-        places[v] = on + 1;
+        found.places[v] = on + 1;
         before = v;
         on = next;
     }
@@ -73,7 +74,7 @@ pub fn read_tables(words: &[u32], places: &mut [usize], n: usize, at: usize) -> 
     }
     let set = Variables {
         words,
-        places: &places[..],
+        places: &found.places,
         count: n,
     };
     read_table(&set, on, before)?;

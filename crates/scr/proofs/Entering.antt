@@ -17,22 +17,30 @@ use Rattle.meaning.specs.Run.{run_ready, ran_of, run_of}
 use Rattle.meaning.specs.Check.{check_of}
 use Rattle.part.specs.Part.{start_at, end_at}
 use Rattle.part.proofs.Laws.{part_is, part_none}
+use Rattle.set.specs.declared.opened.Opened.{Opened}
+use Rattle.set.specs.declared.faults.Fault as S
+use Rattle.set.specs.declared.faults.Fault.TheVariants.{Unread, Cycle}
+use Rattle.set.specs.ReadSet.{Opens, SetAs, unread_is}
 use Rattle.scr.specs.declared.Refusal.{Refusal}
-use Rattle.scr.specs.declared.opening.Opened.{Opened}
-use Rattle.scr.specs.Answers.{refused, answer_says, verdict_says, answer_says, count_of}
-use Rattle.scr.specs.Opened.{Opens, OpenedAs, is_ok, reads_well}
+use Rattle.scr.specs.Answers.{refused, refusal_says, answer_says, verdict_says, count_of}
+use Rattle.scr.specs.Opened.{is_ok, reads_well}
+use Rattle.scr.proofs.Refusing.{refused_says}
 
 -- ---- by what the entry begins with
-module _ (ws : List ℕ) (r : Result Opened Refusal) (h : OpenedAs ws r) where
+module _ (ws : List ℕ) (r : Result Opened S.Fault) (h : SetAs ws r) where
   pub opens : (o : Opened) → r ≡ Ok o → Opens ws o
-  unfolding OpenedAs
+  unfolding SetAs
   opens o e = rw e at h
 
   -- a call that begins with the reading is refused as the reading is
-  module _ (q : Refusal) (e : r ≡ Err q) where
+  module _ (f : S.Fault) (e : r ≡ Err f) (q : Refusal) (eq : refusal_says q ≡ unread_is f) where
     unread : read_set ws ≡ refused q
-    unfolding OpenedAs
-    unread = rw e at h
+    unfolding SetAs unread_is
+    unread = go f e eq
+      where
+        go : (f : S.Fault) → r ≡ Err f → refusal_says q ≡ unread_is f → read_set ws ≡ refused q
+        go (Unread f) e eq = let p = rw e at h in p.0 ∙ sym (refused_says q _ _ eq)
+        go (Cycle c) e eq = let p = rw e at h in p ∙ sym (refused_says q _ _ eq)
 
     refused_first : {B : Type 0} (f : TableSet → Outcome B) → refused q ≡ (read_set ws >>= f)
     unfolding refused
@@ -77,14 +85,15 @@ module _ (ws : List ℕ) (r : Result Opened Refusal) (h : OpenedAs ws r) where
       kept_refused out = ap (λ (y : Outcome Values). lent_values y out) values_first
 
 -- ---- rows
-module _ (ws : List ℕ) (v : ℕ) (r : Result Opened Refusal) (h : OpenedAs ws r) (b : Bool) (eb : b ≡ is_err r) where
+module _ (ws : List ℕ) (v : ℕ) (r : Result Opened S.Fault) (h : SetAs ws r) (b : Bool) (eb : b ≡ is_err r) where
   reads_as : b ≡ not (reads_well ws)
-  unfolding reads_well OpenedAs is_ok refused
+  unfolding reads_well SetAs is_ok
   reads_as = eb ∙ go r h
     where
-      go : (r : Result Opened Refusal) → OpenedAs ws r → is_err r ≡ not (is_ok (read_set ws))
+      go : (r : Result Opened S.Fault) → SetAs ws r → is_err r ≡ not (is_ok (read_set ws))
       go (Ok x) h = rw h.1.reads
-      go (Err q) h = rw h
+      go (Err (Unread f)) h = rw h.0
+      go (Err (Cycle c)) h = rw h
 
   pub rows_unread : b ≡ true → [] ≡ rows_of ws v
   unfolding rows_of rows_if reads_well is_ok

@@ -1,5 +1,5 @@
 -- What the index of a set gives.
-use Rattle.std.proofs.Common.{◌≡◌, ◌<◌, ◌≤◌, List, ℕ, length, arith}
+use Rattle.std.proofs.Common.{◌≡◌, ◌<◌, ◌≤◌, ℕ, length}
 use Rattle.word.specs.Limits as Max
 use Rattle.meaning.specs.States.{state_count}
 use Rattle.theory.specs.WellFormed.{WellFormed}
@@ -8,8 +8,7 @@ use Rattle.index.specs.declared.variables.Extent.{Extent}
 use Rattle.index.specs.declared.variables.Index.{Index}
 use Rattle.index.specs.Places.{place_count}
 use Rattle.lanes.specs.Cleared.{Known}
-use Rattle.scr.specs.declared.opening.Opened.{Opened}
-use Rattle.scr.specs.Opened.{Opens, IndexOf}
+use Rattle.scr.specs.Opened.{IndexOf}
 
 module _ {x : Index} {ext : Extent} (h : IndexOf x ext) where
   pub well : WellFormed h.set
@@ -50,8 +49,3 @@ module _ {x : Index} {ext : Extent} (h : IndexOf x ext) where
     states = h.typed.states_are;
     few = states_room;
   }
-
--- ---- the index of what has been read
-module _ (ws : List ℕ) (o : Opened) (h : Opens ws o) where
-  pub order_room : o.extent.variables ≤ length o.order
-  order_room = omega (arith, h.1.typed.indexed.few, h.1.order_long)

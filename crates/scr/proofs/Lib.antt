@@ -1,6 +1,5 @@
 pub mod Refusing
 pub mod Indexing
-pub mod Reading
 pub mod Calling
 pub mod Deciding
 pub mod Performing

@@ -3,7 +3,6 @@
 // stand where they speak of the entry.
 #![tactic(auto)]
 
-mod opening; // reading the set
 mod refusals; // making refusals
 mod runs; // a run of a set that reads
 mod stepping; // a step of a set that reads
@@ -24,9 +23,9 @@ ghost use Rattle.meaning.specs.Check.{check_of};
 ghost use Rattle.scr.specs.Answers.{answer_says, verdict_says, count_of};
 ghost use Rattle.scr.specs.Promises.{Demand2, StartsExactly, StepsExactly, ValuesExactly};
 
-use crate::opening::open;
 pub use order::Cycle;
 use part::{part_end, part_start};
+use set::read_set;
 pub use simulator::Input;
 use state::initial_state;
 use verdicts::verdict;
@@ -109,7 +108,7 @@ pub fn start(words: &[u32]) -> Result<u32, Refusal>
     ensures answers_or_refuses { AnswersOrRefuses (answer_says result) start_numbers (StartRefused words.now) }
     ensures starts_exactly { StartsExactly words.now result }
 {
-    let opened = open(words)?;
+    let opened = read_set(words)?;
     Ok(initial_state(&opened.index(words)))
 }
 
@@ -120,7 +119,7 @@ pub fn check(words: &[u32]) -> Result<Counts, Refusal>
     ensures answers_or_refuses { AnswersOrRefuses (verdict_says result) check_numbers (Refused words.now) }
     ensures demand2 { Demand2 words.now result }
 {
-    let opened = open(words)?;
+    let opened = read_set(words)?;
     verdict(&opened.index(words), opened.extent)
 }
 
@@ -131,7 +130,7 @@ pub fn step(words: &[u32], state: u32, event: u32) -> Result<u32, Refusal>
     ensures answers_or_refuses { AnswersOrRefuses (answer_says result) step_numbers (StepRefused words.now state event) }
     ensures steps_exactly { StepsExactly words.now state event result }
 {
-    let opened = open(words)?;
+    let opened = read_set(words)?;
     stepping::step(&opened.index(words), opened.extent, state, event)
 }
 
@@ -149,7 +148,7 @@ pub fn run(
     ensures run_answers { RunAnswers words.now state events.now trace.old place (answer_says result) trace.new }
     ensures demand3 { Demand3 words.now state events.now trace.old place (answer_says result) trace.new }
 {
-    let opened = open(words)?;
+    let opened = read_set(words)?;
     runs::run(
         &opened.index(words),
         opened.extent,
@@ -168,7 +167,7 @@ pub fn values(words: &[u32], state: u32, out: &mut [Value]) -> Result<usize, Ref
     ensures answers_or_refuses { AnswersOrRefuses (answer_says result) values_numbers (ValuesRefused words.now state (length out.old)) }
     ensures values_exactly { ValuesExactly words.now state out.old result out.new }
 {
-    let opened = open(words)?;
+    let opened = read_set(words)?;
     valuing::values(&opened.index(words), opened.extent, state, out)
 }
 
@@ -178,7 +177,7 @@ pub fn rows(words: &[u32], variable: u32) -> &[u32]
     ensures result_value { result.now ≡ rows_of words.now variable }
     ensures rows_answers { RowsAnswers words.now variable result.now }
 {
-    if open(words).is_err() {
+    if read_set(words).is_err() {
         return &words[0..0];
     }
     let a = part_start(words, variable);

@@ -5,8 +5,8 @@ use Rattle.word.specs.Limits as Max
 use Rattle.meaning.specs.Answers.{ok, refuse}
 use Rattle.meaning.specs.Order.{order, no_cycle}
 use Rattle.meaning.specs.States.{read_typed, read_set}
-use Rattle.index.specs.declared.variables.Extent.{Extent}
 use Rattle.reader.specs.declared.faults.Fault as R
+use Rattle.reader.specs.declared.Typed.{Typed}
 use Rattle.reader.specs.Faults.{refusal, carried}
 use Rattle.reader.specs.Typed.{TypedAs}
 use Rattle.order.specs.declared.Cycle as O
@@ -16,40 +16,41 @@ use Rattle.theory.specs.Numbered.{typed_number}
 use Rattle.set.specs.declared.faults.Fault.TheVariants.{Unread, Cycle}
 use Rattle.set.specs.ReadSet.{SetAs}
 
-pub set_refused : (ws ps us os : List ℕ) (t : Result Extent R.Fault) (f : R.Fault) → TypedAs ws t ps us → t ≡ Err f → SetAs ws (Err (Unread f)) ps us os
+pub set_refused : (ws : List ℕ) (t : Result Typed R.Fault) (f : R.Fault) → TypedAs ws t → t ≡ Err f → SetAs ws (Err (Unread f))
 unfolding SetAs TypedAs read_set
-set_refused ws ps us os t f h e =
-    let r : read_typed ws ≡ refuse (refusal f) (carried f ∷ []) = subst (λ (y : Result Extent R.Fault). TypedAs ws y ps us) e h in
+set_refused ws t f h e =
+    let r : read_typed ws ≡ refuse (refusal f) (carried f ∷ []) = subst (λ (y : Result Typed R.Fault). TypedAs ws y) e h in
     (rw r, typed_number ws (refusal f) (carried f ∷ []) r)
 
-pub index_few : (ws ps us : List ℕ) (t : Result Extent R.Fault) (x : Extent) → TypedAs ws t ps us → t ≡ Ok x → x.variables ≤ Max.max_variables
-unfolding TypedAs
-index_few ws ps us t x h e = let p = rw e at h in p.1.indexed.few
+module _ (ws : List ℕ) (t : Result Typed R.Fault) (x : Typed) (h : TypedAs ws t) (e : t ≡ Ok x) where
+  pub index_few : x.extent.variables ≤ Max.max_variables
+  unfolding TypedAs
+  index_few = let p = rw e at h in p.1.indexed.few
 
-module _ (ws ps us os : List ℕ) (t : Result Extent R.Fault) (x : Extent) (o : Result (Unit {0}) O.Cycle) (h : TypedAs ws t ps us) (e : t ≡ Ok x)
-    (eo : cycle_said o ≡ no_cycle_at ws ps x.variables) where
-  pub set_cycle : (c : O.Cycle) → o ≡ Err c → SetAs ws (Err (Cycle c)) ps us os
-  unfolding SetAs TypedAs cycle_said read_set
-  set_cycle c p =
-      let q = rw e at h in
-      let s : no_cycle q.0 ≡ refuse 9 (c.variable ∷ c.length ∷ []) = sym (order_means q.1.indexed).1 ∙ sym eo ∙ rw p in
-      rw (q.1.typed, s)
+  module _ (o : Result (Unit {0}) O.Cycle) (eo : cycle_said o ≡ no_cycle_at ws x.places x.extent.variables) where
+    pub set_cycle : (c : O.Cycle) → o ≡ Err c → SetAs ws (Err (Cycle c))
+    unfolding SetAs TypedAs cycle_said read_set
+    set_cycle c p =
+        let q = rw e at h in
+        let s : no_cycle q.0 ≡ refuse 9 (c.variable ∷ c.length ∷ []) = sym (order_means q.1.indexed).1 ∙ sym eo ∙ rw p in
+        rw (q.1.typed, s)
 
-  pub set_all : (u : Unit {0}) → o ≡ Ok u → take (length (order_at ws ps x.variables)) os ≡ order_at ws ps x.variables → length os ≡ Max.max_variables
-      → SetAs ws (Ok x) ps us os
-  unfolding SetAs TypedAs cycle_said read_set
-  set_all u p take_is long =
-      let q = rw e at h in
-      let m = order_means q.1.indexed in
-      let s : no_cycle q.0 ≡ ok tt = sym m.1 ∙ sym eo ∙ rw p in (
-        q.0,
-        record {
-          reads = rw (q.1.typed, s);
-          typed = q.1;
-          acyclic = s;
-          order_is = subst (λ (k : ℕ). take k os ≡ order q.0) (order_below q.1.indexed s) (take_is ∙ m.0);
-          order_long = long;
-        },
-      )
+    pub set_all : (u : Unit {0}) (os : List ℕ) → o ≡ Ok u → take (length (order_at ws x.places x.extent.variables)) os ≡ order_at ws x.places x.extent.variables
+        → length os ≡ Max.max_variables
+        → SetAs ws (Ok (record { extent = x.extent; places = x.places; weights = x.weights; order = os }))
+    unfolding SetAs TypedAs cycle_said read_set
+    set_all u os p take_is long =
+        let q = rw e at h in
+        let m = order_means q.1.indexed in
+        let s : no_cycle q.0 ≡ ok tt = sym m.1 ∙ sym eo ∙ rw p in (
+          q.0,
+          record {
+            reads = rw (q.1.typed, s);
+            typed = q.1;
+            acyclic = s;
+            order_is = subst (λ (k : ℕ). take k os ≡ order q.0) (order_below q.1.indexed s) (take_is ∙ m.0);
+            order_long = long;
+          },
+        )
 
 pub ruleset set_laws = (set_refused, index_few, set_cycle, set_all)

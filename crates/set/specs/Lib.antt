@@ -1,1 +1,2 @@
 pub mod ReadSet
+pub mod Opened

@@ -6,9 +6,9 @@ use Rattle.meaning.specs.Searches.{mem}
 use Rattle.meaning.specs.Syntax.{TableSet}
 use Rattle.meaning.specs.Order.{order, no_cycle}
 use Rattle.meaning.specs.States.{read_set}
-use Rattle.index.specs.declared.variables.Extent.{Extent}
 use Rattle.reader.specs.Faults.{refusal, carried}
 use Rattle.reader.specs.Typed.{TypedSet}
+use Rattle.set.specs.declared.opened.Opened.{Opened}
 use Rattle.set.specs.declared.faults.Fault.{Fault}
 use Rattle.set.specs.declared.faults.Fault.TheVariants.{Unread, Cycle}
 
@@ -20,12 +20,16 @@ pub record ReadSet (ws : List ℕ) (z : TableSet) (n a c : ℕ) (ps us os : List
   pub order_is : take n os ≡ order z
   pub order_long : length os ≡ Max.max_variables
 
+-- x holds the index of the set that the words say
+abbrev pub Opens : List ℕ → Opened → Type 0
+Opens ws x = (z : TableSet) × ReadSet ws z x.extent.variables x.extent.assertions x.extent.states x.places x.weights x.order
+
 -- why a set is not read: the number of the refusal, and what it carries
 unfoldable pub unread_is : Fault → ℕ × List ℕ
 unread_is (Unread f) = (refusal f, carried f ∷ [])
 unread_is (Cycle c) = (9, c.variable ∷ c.length ∷ [])
 
-unfoldable pub SetAs : List ℕ → Result Extent Fault → List ℕ → List ℕ → List ℕ → Type 0
-SetAs ws (Ok e) ps us os = (z : TableSet) × ReadSet ws z e.variables e.assertions e.states ps us os
-SetAs ws (Err (Unread f)) ps us os = (read_set ws ≡ refuse (refusal f) (carried f ∷ [])) × (mem (refusal f) typed_numbers ≡ true)
-SetAs ws (Err (Cycle c)) ps us os = read_set ws ≡ refuse 9 (c.variable ∷ c.length ∷ [])
+unfoldable pub SetAs : List ℕ → Result Opened Fault → Type 0
+SetAs ws (Ok x) = Opens ws x
+SetAs ws (Err (Unread f)) = (read_set ws ≡ refuse (refusal f) (carried f ∷ [])) × (mem (refusal f) typed_numbers ≡ true)
+SetAs ws (Err (Cycle c)) = read_set ws ≡ refuse 9 (c.variable ∷ c.length ∷ [])

@@ -2,34 +2,36 @@
 #![tactic(auto)]
 
 mod faults; // why a set is not read
+mod opened; // a set that is
 
-ghost use Rattle.std.specs.Prelude.{◌≡◌, length};
-ghost use Rattle.word.specs.Limits as Max;
-ghost use Rattle.reader.specs.Typed.{no_places, no_weights};
 ghost use Rattle.set.specs.ReadSet.{SetAs};
 
 pub use faults::Fault;
-use index::{Extent, Variables};
+use index::Variables;
+pub use opened::Opened;
 use order::order_tables;
 use reader::read_typed;
+use word::MAX_VARIABLES;
 
-// How far the set goes. The three lists are the caller's: there is no heap. `places`, `weights` and `order` are written. Nothing is said of them after a refusal.
+// Reads a set: what it opens, or the first of the refusals.
 #[tactic(auto, using(crate::proofs::Laws::set_laws))]
-pub fn read_set(
-    words: &[u32],
-    places: &mut [usize],
-    weights: &mut [u32],
-    order: &mut [usize],
-) -> Result<Extent, Fault>
-    requires { (places.old ≡ no_places) × (weights.old ≡ no_weights) × (length order.old ≡ Max.max_variables) }
-    ensures { SetAs words.now result places.new weights.new order.new }
+pub fn read_set(words: &[u32]) -> Result<Opened, Fault>
+    ensures { SetAs words.now result }
 {
-    let extent = read_typed(words, &mut places[..], &mut weights[..])?;
+    let typed = read_typed(words)?;
     let set = Variables {
         words,
-        places: &places[..],
-        count: extent.variables,
+        places: &typed.places,
+        count: typed.extent.variables,
     };
-    order_tables(&set, &mut order[..])?;
-    Ok(extent)
+    let mut order = [0; MAX_VARIABLES];
+    order_tables(&set, &mut order)?;
+    let places = typed.places;
+    let weights = typed.weights;
+    Ok(Opened {
+        extent: typed.extent,
+        places,
+        weights,
+        order,
+    })
 }

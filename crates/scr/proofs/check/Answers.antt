@@ -7,12 +7,12 @@ use Rattle.scr.proofs.Demanded.{check_demand, demand_2}
 use Rattle.scr.proofs.check.Goals as goal
 
 pub index-requires : goal.index-requires
-index-requires c = opens _ _ c.open.ensures _ c.in_ok-opened.was
+index-requires c = opens _ _ c.read_set.ensures _ c.in_ok-opened.was
 
 pub returns-in_err-opened : goal.returns-in_err-opened
 returns-in_err-opened c =
     let p = err_from_is_err_and c.from_residual.result c.from_residual.ensures.1 in
-    let v : verdict_says c.from_residual.result ≡ check_of c.args.words.now = rw (p.1, p.2) (check_refused _ _ c.open.ensures _ c.in_err-opened.was) in
+    let v : verdict_says c.from_residual.result ≡ check_of c.args.words.now = rw p.1 (check_refused _ _ c.read_set.ensures _ c.in_err-opened.was _ p.2) in
     record { result_value = v; answers_or_refuses = check_demand _ _ v; demand2 = demand_2 _ _ v }
 
 pub returns : goal.returns

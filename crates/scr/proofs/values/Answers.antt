@@ -7,13 +7,13 @@ use Rattle.scr.proofs.Demanded.{values_demand, values_shown}
 use Rattle.scr.proofs.values.Goals as goal
 
 pub index-requires : goal.index-requires
-index-requires c = opens _ _ c.open.ensures _ c.in_ok-opened.was
+index-requires c = opens _ _ c.read_set.ensures _ c.in_ok-opened.was
 
 pub returns-in_err-opened : goal.returns-in_err-opened
 returns-in_err-opened c =
     let p = err_from_is_err_and c.from_residual.result c.from_residual.ensures.1 in
-    let v : answer_says c.from_residual.result ≡ count_of (values_of c.args.words.now c.args.state (length c.args.out.now)) = rw (p.1, p.2) (values_refused _ _ c.open.ensures _ c.in_err-opened.was _ _) in
-    let k = kept_refused _ _ c.open.ensures _ c.in_err-opened.was c.args.state (length c.args.out.now) c.args.out.now in
+    let v : answer_says c.from_residual.result ≡ count_of (values_of c.args.words.now c.args.state (length c.args.out.now)) = rw p.1 (values_refused _ _ c.read_set.ensures _ c.in_err-opened.was _ p.2 _ _) in
+    let k = kept_refused _ _ c.read_set.ensures _ c.in_err-opened.was _ p.2 c.args.state (length c.args.out.now) c.args.out.now in
     record { result_value = v; out_after = k; answers_or_refuses = values_demand _ _ _ _ v; values_exactly = values_shown _ _ _ _ _ v k }
 
 pub returns : goal.returns

@@ -5,7 +5,7 @@ use Rattle.set.proofs.read_set.Goals as goal
 pub returns-in_err-order_tables : goal.returns-in_err-order_tables
 returns-in_err-order_tables c =
     let p = err_from_is_err_and c.from_residual-in_err-order_tables.result c.from_residual-in_err-order_tables.ensures.1 in
-    rw (p.1, p.2) (search (set_cycle, c.in_ok-extent.was, c.in_err-order_tables.was))
+    rw (p.1, p.2) (search (set_cycle, c.in_ok-typed.was, c.in_err-order_tables.was))
 
 pub returns : goal.returns
-returns c = search (set_all, c.in_ok-extent.was, c.in_ok-order_tables.was)
+returns c = search (set_all, c.in_ok-typed.was, c.in_ok-order_tables.was)

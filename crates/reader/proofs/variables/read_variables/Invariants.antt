@@ -6,7 +6,9 @@ use Rattle.reader.specs.Variables.{NoTables}
 use Rattle.reader.proofs.variables.read_variables.Given as goal
 
 abbrev pub invariant-loop-i : goal.invariant-loop-i
-invariant-loop-i l = (l.i ≤ Max.max_variables) × (length l.places ≡ place_count) × NoTables l.places × (read_variables l.words (Max.max_variables - l.i) l.i (variables_to l.words l.places l.i) ≡ read_variables l.words Max.max_variables 0 [])
-
-abbrev pub decreases-loop-i : goal.decreases-loop-i
-decreases-loop-i l = Max.max_variables - l.i
+invariant-loop-i l = record {
+  few : l.i ≤ Max.max_variables;
+  long : length l.places ≡ place_count;
+  no_tables : NoTables l.places;
+  rest : read_variables l.words (Max.max_variables - l.i) l.i (variables_to l.words l.places l.i) ≡ read_variables l.words Max.max_variables 0 [];
+}

@@ -1,13 +1,13 @@
-// How every entry begins: the set is read, and what reading refuses becomes the entry's refusal.
+// A set that reads, with all that reading finds of it.
 ghost use Rattle.std.specs.Prelude.{◌≡◌};
-ghost use Rattle.scr.specs.Opened.{IndexOf, Opens, OpenedAs};
+ghost use Rattle.set.specs.ReadSet.{Opens};
+ghost use Rattle.set.specs.Opened.{IndexOf};
 
-use crate::Refusal;
 use index::{Extent, Index, PLACES, Variables};
-use set::read_set;
 use word::MAX_VARIABLES;
 
-// A set that reads: how far it goes, by variable the places of its table and its word and its weight in a state's number, and the dependency order.
+// How far the set goes, by variable the places of its table and its word and its weight in a state's number, and the dependency order. The lists have room for
+// the most that a set may have, as there is no heap.
 #[derive(Drop)]
 pub struct Opened {
     pub extent: Extent,
@@ -34,19 +34,4 @@ impl Opened {
             order: &self.order[..count],
         }
     }
-}
-
-pub fn open(words: &[u32]) -> Result<Opened, Refusal>
-    ensures { OpenedAs words.now result }
-{
-    let mut places = [0usize; PLACES];
-    let mut weights = [0u32; MAX_VARIABLES];
-    let mut order = [0usize; MAX_VARIABLES];
-    let extent = read_set(words, &mut places, &mut weights, &mut order)?;
-    Ok(Opened {
-        extent,
-        places,
-        weights,
-        order,
-    })
 }
