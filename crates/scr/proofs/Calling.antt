@@ -1,13 +1,13 @@
 -- Laws of the calls by the index of a set, one for each way out.
-use Rattle.std.specs.Prelude.{Ok, Err}
+use Rattle.std.specs.Prelude.{Result, Ok, Err}
 use mathlib.Core.Path.{◌≡◌, sym, ap, ◌∙◌}
-use mathlib.Core.List.{List, [], ◌∷◌}
-use Prim.Native.Nat.{ℕ, ◌%◌, ◌≤◌, ◌<◌}
+use mathlib.Core.List.{List, [], ◌∷◌, ◌++◌}
+use Prim.Native.Nat.{ℕ, ◌+◌, ◌%◌, ◌≤◌, ◌<◌}
 use native.Mathlib.Omega.{arith}
 use native.Mathlib.Nat.{mod-eq_of_lt}
 use lib.Dec.{leb, ltb}
-use lib.ListN.{length}
-use lib.Seq.{sets}
+use lib.ListN.{length, drop}
+use lib.Seq.{sets-eq}
 use borrow.Author.Tests.{le-ltb, lt-ltb, lt-leb, le-leb}
 use Rattle.meaning.specs.Answers.{ok, refuse, ◌>>=◌, demand}
 use Rattle.meaning.specs.Searches.{list_of}
@@ -18,10 +18,10 @@ use Rattle.theory.specs.Numbers.{initial_below}
 use Rattle.state.specs.Held.{digit_at, initial_number}
 use Rattle.state.proofs.Means.{count_is, initial_number_lem}
 use Rattle.word.specs.Fields as W
-use Rattle.simulator.specs.declared.NoStep.{NoStep}
+use Rattle.simulator.specs.declared.Stopped.{Stopped}
 use Rattle.simulator.specs.declared.Unsettled.{Unsettled}
 use Rattle.simulator.specs.Walks.{Settled, clash_is, joined, state_walk, settled_says}
-use Rattle.simulator.specs.StepIndex.{Stepped, no_step_is, stepped_says, step_index, examined}
+use Rattle.simulator.specs.StepIndex.{no_step_is, stepped_says, ended_says, step_index, examined}
 use Rattle.simulator.proofs.Laws.{said}
 use Rattle.simulator.proofs.Means.{values_means, step_means}
 use Rattle.scr.specs.declared.Refusal.{Refusal}
@@ -53,9 +53,9 @@ module _ (x : Index) (ext : Extent) (h : IndexOf x ext) where
     unfolding answer_says refused refusal_says step_of
     step_no_state l = rw (h.reads, le-ltb s _ (no_state h s l))
 
-    module _ (r : Stepped) (l : s < ext.states)
-        (er : stepped_says s (input_of w) r ≡ step_index x.variables.words.now x.variables.places.now x.weights.now x.order.now x.variables.count 0 s w) where
-      stepped_is : stepped_says s (input_of w) r ≡ step_of x.variables.words.now s w
+    module _ (r : Result ℕ Stopped) (l : s < ext.states)
+        (er : ended_says r ≡ step_index x.variables.words.now x.variables.places.now x.weights.now x.order.now x.variables.count 0 s w) where
+      stepped_is : ended_says r ≡ step_of x.variables.words.now s w
       unfolding step_of
       stepped_is =
           let typed = typed_state h s l in
@@ -65,12 +65,12 @@ module _ (x : Index) (ext : Extent) (h : IndexOf x ext) where
           h.typed.weights_are h.acyclic (few h) 0 s w typed)
 
       pub step_done : (t : ℕ) → r ≡ Ok t → answer_says (Ok t) ≡ step_of x.variables.words.now s w
-      unfolding answer_says stepped_says
+      unfolding answer_says ended_says
       step_done t e = (rw e at stepped_is)
 
-      pub step_refused : (why : NoStep) (q : Refusal) → r ≡ Err why → refusal_says q ≡ no_step_is s (input_of w) why → answer_says (Err q) ≡ step_of x.variables.words.now s w
-      unfolding answer_says stepped_says
-      step_refused why q e eq = refused_says q _ _ eq ∙ (rw e at stepped_is)
+      pub step_refused : (y : Stopped) (q : Refusal) → r ≡ Err y → refusal_says q ≡ no_step_is y.state (input_of y.event) y.why → answer_says (Err q) ≡ step_of x.variables.words.now s w
+      unfolding answer_says ended_says stepped_says
+      step_refused y q e eq = refused_says q _ _ eq ∙ (rw e at stepped_is)
 
   -- ---- values
   module _ (s room : ℕ) where
@@ -134,6 +134,11 @@ module _ (x : Index) (ext : Extent) (h : IndexOf x ext) where
           unfolding settled_says answer_says count_of
           done_count long = rw (examined_says, eu) (ap ok (sym (long ∙ em)))
 
-          pub done_written : (out after : List ℕ) → after ≡ sets out 0 own → after ≡ lent_values (values_of x.variables.words.now s room) out
+          -- the values are written to the front of the lent list
+          pub done_written : (out b : List ℕ) → length own ≡ m → x.variables.count ≤ length out → b ≡ own
+              → b ++ drop (length own) out ≡ lent_values (values_of x.variables.words.now s room) out
           unfolding settled_says lent_values
-          done_written out after eq = rw (examined_says, eu) eq
+          done_written out b long room eb =
+              let z : 0 + length own ≡ length own = omega arith in
+              let e = sets-eq own out 0 (omega (arith, long, em)) in
+              rw (examined_says, eu, eb) (sym (e ∙ ap (λ (n : ℕ). own ++ drop n out) z))

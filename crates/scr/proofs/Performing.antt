@@ -13,9 +13,9 @@ use Rattle.word.specs.Limits as Max
 use Rattle.meaning.specs.Answers.{refuse}
 use Rattle.meaning.specs.Steps.{input_of}
 use Rattle.meaning.specs.Run.{run_ready, ran_of, run_of}
-use Rattle.simulator.specs.declared.run.Stopped.{Stopped}
-use Rattle.simulator.specs.StepIndex.{no_step_is, stepped_says}
-use Rattle.simulator.specs.RunIndex.{ended_says, run_index}
+use Rattle.simulator.specs.declared.Stopped.{Stopped}
+use Rattle.simulator.specs.StepIndex.{no_step_is, stepped_says, ended_says}
+use Rattle.simulator.specs.RunIndex.{run_index}
 use Rattle.simulator.proofs.Means.{run_means}
 use Rattle.scr.specs.declared.Refusal.{Refusal}
 use Rattle.scr.specs.declared.Refusal.TheVariants as R

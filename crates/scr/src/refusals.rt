@@ -11,7 +11,7 @@ ghost use Rattle.scr.specs.Answers.{refusal_says};
 
 use crate::{Broken, Gap, Input, Overlap, Refusal, StepOverlap};
 use checker::Place;
-use simulator::{Clash, NoStep, Unsettled};
+use simulator::{Clash, NoStep, Stopped, Unsettled};
 use word::{given, variable};
 
 // ---- of reading
@@ -76,19 +76,21 @@ pub fn unsettled(side: u32, state: u32, input: Input, fault: Unsettled) -> Refus
     }
 }
 
-// Why there is no step from a state by an event word.
-#[tactic(auto, unfolding(crate::specs::Answers::refusal_says, simulator::specs::StepIndex::no_step_is, meaning::specs::Steps::input_of))]
-pub fn no_step(state: u32, event: u32, why: NoStep) -> Refusal
-    ensures { refusal_says result ≡ no_step_is state (input_of event) why }
-{
-    let input = Input {
-        variable: variable(event) as usize,
-        value: given(event),
-    };
-    match why {
-        NoStep::NotEnabled(i) => Refusal::NotEnabled(i),
-        NoStep::Before(fault) => unsettled(0, state, input, fault),
-        NoStep::After(fault) => unsettled(1, state, input, fault),
+// An event that is not done.
+impl From<Stopped> for Refusal {
+    ghost from_gives = { λ t q. refusal_says q ≡ no_step_is t.state (input_of t.event) t.why };
+
+    #[tactic(auto, unfolding(crate::specs::Answers::refusal_says, simulator::specs::StepIndex::no_step_is, meaning::specs::Steps::input_of))]
+    fn from(stopped: Stopped) -> Refusal {
+        let input = Input {
+            variable: variable(stopped.event) as usize,
+            value: given(stopped.event),
+        };
+        match stopped.why {
+            NoStep::NotEnabled(i) => Refusal::NotEnabled(i),
+            NoStep::Before(fault) => unsettled(0, stopped.state, input, fault),
+            NoStep::After(fault) => unsettled(1, stopped.state, input, fault),
+        }
     }
 }
 

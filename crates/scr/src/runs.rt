@@ -6,7 +6,6 @@ ghost use Rattle.scr.specs.Answers.{answer_says};
 ghost use Rattle.scr.specs.Opened.{IndexOf, run_in};
 
 use crate::Refusal;
-use crate::refusals::no_step;
 use index::{Extent, Index};
 use simulator::run::run_events;
 use word::MAX_EVENTS;
@@ -23,11 +22,7 @@ fn perform(
     ensures result_value { answer_says result ≡ (run_in index.now s events.now).last }
     ensures trace_after { trace.new ≡ sets trace.old 0 (run_in index.now s events.now).done }
 {
-    // A closure for map_err would have to say again what no_step promises.
-    match run_events(index, s, events, trace) {
-        Ok(last) => Ok(last),
-        Err(stopped) => Err(no_step(stopped.state, stopped.event, stopped.why)),
-    }
+    Ok(run_events(index, s, events, trace)?)
 }
 
 // The same from the place on. At or past the end there is no room, so there are no events.

@@ -5,7 +5,6 @@ ghost use Rattle.scr.specs.Answers.{answer_says};
 ghost use Rattle.scr.specs.Opened.{IndexOf};
 
 use crate::Refusal;
-use crate::refusals::no_step;
 use index::{Extent, Index};
 use simulator::step_from;
 
@@ -16,9 +15,5 @@ pub fn step(index: &Index, extent: Extent, s: u32, w: u32) -> Result<u32, Refusa
     if extent.states <= s {
         return Err(Refusal::NoState(s));
     }
-    // A closure for map_err would have to say again what no_step promises.
-    match step_from(index, 0, s, w) {
-        Ok(next) => Ok(next),
-        Err(why) => Err(no_step(s, w, why)),
-    }
+    Ok(step_from(index, 0, s, w)?)
 }

@@ -7,7 +7,7 @@ ghost use Rattle.scr.specs.Opened.{IndexOf};
 use crate::refusals::unsettled;
 use crate::{Input, Refusal};
 use index::{Extent, Index};
-use simulator::{values_in, write_front};
+use simulator::values_in;
 use word::{MAX_VARIABLES, Value};
 
 // The state is examined in a list of its own, so that a refusal writes nothing to the lent one.
@@ -29,7 +29,7 @@ fn examine(
     match values_in(index, s, own) {
         Err(fault) => Err(unsettled(0, s, none, fault)),
         Ok(()) => {
-            write_front(own, out);
+            out[..own.len()].copy_from_slice(own);
             Ok(index.variables.count)
         }
     }

@@ -1,6 +1,5 @@
 -- One law for each way out of the functions of this crate, in the code's own terms.
-use Rattle.std.proofs.Common.{◌≡◌, refl, sym, ap, ◌∙◌, ℕ, zero, suc, ◌+◌, ◌-◌, ◌%◌, ◌≤◌, ◌<◌, Bool, true, not, eqb, List, ◌++◌, length, get_or, set, drop, drop_of_length-le, drop-cons, arith, add-one, ne_eqb, Ok, Err}
-use Rattle.std.proofs.lemmas.List.Edits.{sets, sets-eq}
+use Rattle.std.proofs.Common.{◌≡◌, refl, sym, ap, ◌∙◌, ℕ, zero, suc, ◌+◌, ◌-◌, ◌%◌, ◌≤◌, ◌<◌, Bool, true, not, eqb, List, length, get_or, set, drop, drop_of_length-le, drop-cons, arith, add-one, ne_eqb, Result, Ok, Err, MatchResult, IsErrAnd}
 use borrow.Author.Tests.{not-true}
 use Rattle.word.specs.Fields as W
 use Rattle.word.specs.Limits as Max
@@ -18,7 +17,9 @@ use Rattle.simulator.specs.declared.Clash.{Clash}
 use Rattle.simulator.specs.declared.Clash.TheVariants.{Gap, Overlap, StepOverlap}
 use Rattle.simulator.specs.declared.Unsettled.{Unsettled}
 use Rattle.simulator.specs.declared.NoStep.TheVariants.{NotEnabled, Before, After}
-use Rattle.simulator.specs.StepIndex.{Stepped, no_step_is, stepped_says, after_index, step_index}
+use Rattle.simulator.specs.declared.NoStep.{NoStep}
+use Rattle.simulator.specs.declared.Stopped.{Stopped}
+use Rattle.simulator.specs.StepIndex.{Stepped, no_step_is, stepped_says, ended_says, after_index, step_index}
 use Rattle.simulator.specs.Walks.{Given, Settled, condition_of, event_of, condition_given, event_given, given_in_by, given_in, given_after_by, given_after, Walk, joined, onward, walk, state_walk, step_walk, walk_says, settled_says}
 
 -- ---- what a table gives
@@ -121,12 +122,6 @@ module _ (f : Values → ℕ → Given) (os b : List ℕ) (i : ℕ) (all : Walk)
     unfolding onward
     walk_on k c e ec = rw ec (rw e at walk_turn)
 
--- ---- the front of a lent list
-pub front_is : (from out b : List ℕ) → length from ≤ length out → b ≡ from → b ++ drop (length from) out ≡ sets out 0 from
-front_is from out b h e =
-    let z : 0 + length from ≡ length from = omega arith in
-    rw e (sym (sets-eq from out 0 (omega arith) ∙ ap (λ (n : ℕ). from ++ drop n out) z))
-
 -- ---- the step
 -- what a walk that ended says
 pub said : (side s : ℕ) (e : Input) (r : Settled) (b : Values) (all : Walk) → joined r b ≡ all → walk_says side s e all ≡ settled_says side s e b r
@@ -175,3 +170,12 @@ module _ (ws ps us os : List ℕ) (n i s w : ℕ) (on : Bool) (eo : on ≡ enabl
         → ((s : ℕ) → stepped_says s (input_of w) t ≡ after_index ws ps us os (length a) s w a) → stepped_says s (input_of w) t ≡ step_index ws ps us os n i s w
     unfolding settled_says
     from_done t e la h = let l : length a ≡ n = la ∙ em in (rw l at (h s)) ∙ sym (from_says ∙ rw e)
+
+-- with the state and the event beside the reason
+pub ended_handed : (s w : ℕ) (r : Stepped) (m : Result ℕ Stopped) (P : NoStep → Stopped → Type 0)
+    → MatchResult r (λ t. m ≡ Ok t) (λ why. IsErrAnd m (P why)) → ((why : NoStep) (x : Stopped) → P why x → x ≡ record { state = s; event = w; why = why })
+    → ended_says m ≡ stepped_says s (input_of w) r
+unfolding ended_says stepped_says
+ended_handed s w (Ok t) m P e made = rw e
+ended_handed s w (Err why) (Ok t) P e made = absurd e
+ended_handed s w (Err why) (Err x) P e made = rw (made why x e)

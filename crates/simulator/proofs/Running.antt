@@ -1,12 +1,11 @@
 -- Laws of the event loop, one for each way out of it: what is left from here is the whole.
-use Rattle.std.proofs.Common.{◌≡◌, sym, ap, ◌∙◌, ℕ, ◌+◌, ◌≤◌, ◌<◌, List, [], ◌∷◌, add-one, length, get_or, set, drop, drop_of_length-le, drop-cons, Ok, Err}
+use Rattle.std.proofs.Common.{◌≡◌, sym, ap, ◌∙◌, ℕ, ◌+◌, ◌≤◌, ◌<◌, List, [], ◌∷◌, add-one, length, get_or, set, drop, drop_of_length-le, drop-cons, Result, Ok, Err}
 use Rattle.std.proofs.lemmas.List.Edits.{sets}
 use Rattle.meaning.specs.Answers.{Outcome, ok}
-use Rattle.meaning.specs.Steps.{input_of}
 use Rattle.meaning.specs.Run.{Ran}
-use Rattle.simulator.specs.declared.NoStep.{NoStep}
-use Rattle.simulator.specs.StepIndex.{Stepped, stepped_says, step_index}
-use Rattle.simulator.specs.RunIndex.{ended_says, run_index}
+use Rattle.simulator.specs.declared.Stopped.{Stopped}
+use Rattle.simulator.specs.StepIndex.{stepped_says, ended_says, step_index}
+use Rattle.simulator.specs.RunIndex.{run_index}
 
 module _ (ws ps us os : List ℕ) (n i s : ℕ) (es out : List ℕ) where
   -- no event is left
@@ -18,7 +17,7 @@ module _ (ws ps us os : List ℕ) (n i s : ℕ) (es out : List ℕ) where
   unfolding run_index
   run_end_trace all inv h = rw (drop_of_length-le es h) at inv
 
-  module _ (r : Stepped) (h : i < length es) (er : stepped_says s (input_of (get_or es i 0)) r ≡ step_index ws ps us os n i s (get_or es i 0)) where
+  module _ (r : Result ℕ Stopped) (h : i < length es) (er : ended_says r ≡ step_index ws ps us os n i s (get_or es i 0)) where
     -- an event is done
     module _ (t : ℕ) (e : r ≡ Ok t) where
       run_on : run_index ws ps us os n i s (drop i es)
@@ -26,7 +25,7 @@ module _ (ws ps us os : List ℕ) (n i s : ℕ) (es out : List ℕ) where
             done = t ∷ (run_index ws ps us os n (i + 1) t (drop (i + 1) es)).done;
             last = (run_index ws ps us os n (i + 1) t (drop (i + 1) es)).last;
           }
-      unfolding run_index stepped_says
+      unfolding run_index ended_says
       run_on = let p : step_index ws ps us os n i s (get_or es i 0) ≡ ok t = sym er ∙ rw e in rw (drop-cons es i 0 h, p, add-one i, run_index)
 
       pub run_on_answer : (all : Outcome ℕ) → (run_index ws ps us os n i s (drop i es)).last ≡ all
@@ -38,16 +37,14 @@ module _ (ws ps us os : List ℕ) (n i s : ℕ) (es out : List ℕ) where
       run_on_trace all inv = rw (add-one i) (rw (run_on, add-one i) at inv)
 
     -- an event is refused
-    module _ (why : NoStep) (e : r ≡ Err why) where
-      run_stop : run_index ws ps us os n i s (drop i es) ≡ record { done = []; last = stepped_says s (input_of (get_or es i 0)) (Err why) }
-      unfolding run_index stepped_says
+    module _ (x : Stopped) (e : r ≡ Err x) where
+      run_stop : run_index ws ps us os n i s (drop i es) ≡ record { done = []; last = ended_says (Err x) }
+      unfolding run_index ended_says stepped_says
       run_stop =
-          let q : stepped_says s (input_of (get_or es i 0)) (Err why) ≡ step_index ws ps us os n i s (get_or es i 0) = rw e at er in
+          let q : ended_says (Err x) ≡ step_index ws ps us os n i s (get_or es i 0) = rw e at er in
           rw (drop-cons es i 0 h, ← q, run_index)
 
-      pub run_stop_answer : (all : Outcome ℕ) → (run_index ws ps us os n i s (drop i es)).last ≡ all
-          → ended_says (Err (record { state = s; event = get_or es i 0; why = why })) ≡ all
-      unfolding ended_says
+      pub run_stop_answer : (all : Outcome ℕ) → (run_index ws ps us os n i s (drop i es)).last ≡ all → ended_says (Err x) ≡ all
       run_stop_answer all inv = sym (ap (λ (q : Ran). q.last) run_stop) ∙ inv
 
       pub run_stop_trace : (all : List ℕ) → sets out i (run_index ws ps us os n i s (drop i es)).done ≡ all → out ≡ all

@@ -8,6 +8,7 @@ use Rattle.meaning.specs.Steps.{Input, input_of}
 use Rattle.index.specs.Numbers.{word_number_count}
 use Rattle.state.specs.Held.{digit_at, number_at, enabled_at}
 use Rattle.simulator.specs.declared.NoStep.{NoStep}
+use Rattle.simulator.specs.declared.Stopped.{Stopped}
 use Rattle.simulator.specs.declared.NoStep.TheVariants.{NotEnabled, Before, After}
 use Rattle.simulator.specs.Walks.{clash_is, walk_says, state_walk, step_walk}
 
@@ -25,6 +26,11 @@ no_step_is s e (After x) = clash_is 1 s e x.variable x.why
 unfoldable pub stepped_says : ℕ → Input → Stepped → Outcome ℕ
 stepped_says s e (Ok t) = ok t
 stepped_says s e (Err r) = refuse (no_step_is s e r).0 (no_step_is s e r).1
+
+-- the answer of a step or of a run that tells where it stopped: a refused step's is that of the step, from the state before it by its word
+unfoldable pub ended_says : Result ℕ Stopped → Outcome ℕ
+ended_says (Ok t) = ok t
+ended_says (Err x) = stepped_says x.state (input_of x.event) (Err x.why)
 
 -- from the values a of state s by event word w
 unfoldable pub after_index : List ℕ → List ℕ → List ℕ → List ℕ → ℕ → ℕ → ℕ → Values → Outcome ℕ

@@ -2,20 +2,13 @@
 ghost use Rattle.std.specs.Prelude.{◌≡◌, ◌≤◌, length};
 ghost use Rattle.std.proofs.lemmas.List.Edits.{sets};
 ghost use Rattle.word.specs.Limits as Max;
-ghost use Rattle.simulator.specs.RunIndex.{ended_says, run_index};
+ghost use Rattle.simulator.specs.RunIndex.{run_index};
+ghost use Rattle.simulator.specs.StepIndex.{ended_says};
 
-use crate::{NoStep, step_from};
+use crate::{Stopped, step_from};
 use index::Index;
 
-// The first event that is not done: the state before it, its word, and why there is no step.
-#[derive(Clone, Copy)]
-pub struct Stopped {
-    pub state: u32,
-    pub event: u32,
-    pub why: NoStep,
-}
-
-// The last state of the events from state s on. The state after each event done is written to the event's place in the lent list.
+// The last state of the events from state s on, or the first event that is not done. The state after each event done is written to the event's place in the lent list.
 pub fn run_events(index: &Index, s: u32, events: &[u32], trace: &mut [u32]) -> Result<u32, Stopped>
     requires few { index.now.variables.count ≤ Max.max_variables }
     requires room { length events.now ≤ length trace.old }
@@ -24,8 +17,7 @@ pub fn run_events(index: &Index, s: u32, events: &[u32], trace: &mut [u32]) -> R
 {
     let mut state = s;
     for (i, &event) in events.iter().enumerate() {
-        let step = step_from(index, i, state, event);
-        let next = step.map_err(|why| Stopped { state, event, why })?;
+        let next = step_from(index, i, state, event)?;
         trace[i] = next;
         state = next;
     }

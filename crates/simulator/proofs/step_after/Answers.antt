@@ -9,7 +9,7 @@ pub returns-in_err-map_err : goal.returns-in_err-map_err
 returns-in_err-map_err c =
     let p = err_from_is_err_and c.from_residual.result c.from_residual.ensures.1 in
     let q = handed_err c.settle_step.result c.map_err.result _ c.map_err.ensures.cases (λ e. After e) (λ e d h. search rules) _ c.in_err-map_err.was in
-    rw (p.1, p.2, q.2) (after_fault _ _ _ _ _ _ _ _ _ _ _ _ c.copy.ensures c.variable.ensures c.given.ensures c.settle_step.ensures.after_after _ q.1)
+    rw (p.1, p.2, q.2) (after_fault _ _ _ _ _ _ _ _ _ _ _ _ c.copy_from_slice.ensures.after c.variable.ensures c.given.ensures c.settle_step.ensures.after_after _ q.1)
 
 pub returns : goal.returns
 returns c =

@@ -1,11 +1,14 @@
+use Rattle.std.proofs.lemmas.Result.{err_from_is_err_and}
 use Rattle.scr.proofs.Calling.{step_no_state, step_done, step_refused}
 use Rattle.scr.proofs.stepping.step.Goals as goal
 
 pub returns-then-extent-s : goal.returns-then-extent-s
 returns-then-extent-s c = search step_no_state
 
-pub returns-in-Ok : goal.returns-in-Ok
-returns-in-Ok c = search step_done
+pub returns-in_err-step_from : goal.returns-in_err-step_from
+returns-in_err-step_from c =
+    let p = err_from_is_err_and c.from_residual.result c.from_residual.ensures.1 in
+    rw p.1 (search (step_refused, c.in_err-step_from.was, p.2))
 
-pub returns-in-Err : goal.returns-in-Err
-returns-in-Err c = search step_refused
+pub returns : goal.returns
+returns c = search (step_done, c.in_ok-step_from.was)
