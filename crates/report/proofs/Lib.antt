@@ -1,4 +1,3 @@
-pub mod Putting
 pub mod Words
 pub mod Numbers
 pub mod Printing

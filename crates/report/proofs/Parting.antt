@@ -1,11 +1,8 @@
--- Laws of the parts of a list of words.
-use Rattle.std.specs.Prelude.{ℕ, ◌-◌, ◌≤◌, ◌<◌, ◌≡◌, Bool, List, eqb, length, take, drop, get_or, unwrap_or}
+-- Laws of the first event among the words.
+use Rattle.std.specs.Prelude.{ℕ, ◌≤◌, ◌<◌, ◌≡◌, Bool, List, eqb, length, get_or, unwrap_or}
 use Rattle.std.specs.Prelude as R
-use Rattle.std.proofs.Common.{sym, arith}
+use Rattle.std.proofs.Common.{arith}
 use Rattle.std.proofs.Math.Option.{Option}
-use native.Mathlib.Nat.{sub-zero}
-use lib.ListN.{length-take}
-use lib.Seq.{take_all}
 use Rattle.word.specs.Fields as W
 use Rattle.meaning.specs.Searches.{least, or_else}
 use Rattle.meaning.specs.Reading.{word}
@@ -14,7 +11,6 @@ use Rattle.theory.specs.Found.{LeastView, absent, found, least_view}
 use Rattle.index.specs.Search.{found_of}
 use Rattle.index.proofs.Searching.{unwrap_found}
 
--- ---- the first event
 least_most : (f : ℕ → Bool) (n : ℕ) → or_else (least f n) n ≤ n
 unfolding or_else
 least_most f n = go (least_view f n)
@@ -30,13 +26,3 @@ module _ (ws : List ℕ) (r : ℕ) (o : R.Option ℕ) (e : o ≡ found_of (least
 
   pub event_most : r ≤ length ws
   event_most = rw (u, e, unwrap_found) (least_most _ _)
-
--- ---- the front
-pub front_all : (ws : List ℕ) (n : ℕ) → length ws < n → ws ≡ take n ws
-front_all ws n h = sym (take_all n ws (omega arith))
-
-pub front_part : (ws : List ℕ) (n : ℕ) → take (n - 0) (drop 0 ws) ≡ take n ws
-front_part ws n = rw (sub-zero n)
-
-pub front_few : (ws : List ℕ) (n : ℕ) → length (take (n - 0) (drop 0 ws)) ≤ length ws
-front_few ws n = rw (sub-zero n, length-take n ws) (omega arith)

@@ -1,9 +1,9 @@
 -- Laws of the lines of a run, one for each way out.
-use Rattle.std.specs.Prelude.{Ok, Err}
-use mathlib.Core.Path.{◌≡◌, refl, ap, ◌∙◌}
-use mathlib.Core.List.{List}
-use Prim.Native.Nat.{ℕ}
-use lib.ListN.{length, take, replicate, length-replicate}
+use Rattle.std.specs.Prelude.{ℕ, ◌≤◌, ◌≡◌, min, List, ◌++◌, length, take, Ok, Err}
+use Rattle.std.proofs.Common.{refl, sym, ap, ◌∙◌, arith, append_assoc, append-nil}
+use Rattle.std.proofs.Math.Decide.{dec_le}
+use lib.Seq.{take_all}
+use lib.ListN.{replicate, length-replicate}
 use Rattle.word.specs.Limits as Max
 use Rattle.meaning.specs.Answers.{ok}
 use Rattle.meaning.specs.Calls.{start_of}
@@ -13,9 +13,7 @@ use Rattle.meaning.specs.Program.{refuse_line, event_lines, run_from_start}
 use Rattle.scr.specs.declared.Refusal.{Refusal}
 use Rattle.scr.specs.declared.Refusal.TheVariants as R
 use Rattle.scr.specs.Answers.{Answer, refusal_says, refused, answer_says}
-use Rattle.report.specs.Text.{buffer, ◌with◌, Puts}
 use Rattle.report.specs.Runs.{Passed, done_before, ran_lines}
-use Rattle.report.proofs.Putting.{with_none, with_then}
 use Rattle.report.proofs.Counting.{start_is, ran_is}
 
 -- ---- how many events were done
@@ -46,29 +44,41 @@ done_none (R.Room n) h = refl
 done_none (R.Order i) h = refl
 
 -- ---- the lines, by the answer
-module _ (es tr xs ys part : List ℕ) (at : ℕ) (a : Answer) where
-  pub ran_state : (r s : ℕ) → a ≡ Ok s → part ≡ take (length es) tr → Puts (event_lines 0 es part) xs at ys r → Puts (ran_lines es tr (answer_says a)) xs at ys r
-  unfolding ran_lines answer_says
-  ran_state r s e ep h = rw (e, ← ep) h
+-- the front of the states, or all of them
+front : (tr : List ℕ) (m k : ℕ) → m ≡ min k (length tr) → take m tr ≡ take k tr
+front tr m k e = go (dec_le k (length tr))
+  where
+    go : Dec (k ≤ length tr) → take m tr ≡ take k tr
+    go (yes h) = let q : m ≡ k = omega arith in rw q
+    go (no h) = take_all m tr (omega arith) ∙ sym (take_all k tr (omega arith))
 
-  pub ran_refused : (zs : List ℕ) (on r k : ℕ) (q : Refusal) → a ≡ Err q → k ≡ done_before (refusal_says q).0 (refusal_says q).1 → part ≡ take k tr
-      → Puts (event_lines 0 es part) xs at ys on → Puts (refuse_line (refusal_says q).0 (refusal_says q).1) ys on zs r → Puts (ran_lines es tr (answer_says a)) xs at zs r
+module _ (es tr old lines : List ℕ) (a : Answer) (m : ℕ) (h : lines ≡ old ++ event_lines 0 es (take m tr)) where
+  pub ran_state : (s : ℕ) → a ≡ Ok s → m ≡ min (length es) (length tr) → lines ≡ old ++ ran_lines es tr (answer_says a)
+  unfolding ran_lines answer_says
+  ran_state s e em = rw (e, ← front tr m (length es) em) h
+
+  pub ran_refused : (all : List ℕ) (k : ℕ) (q : Refusal) → a ≡ Err q → k ≡ done_before (refusal_says q).0 (refusal_says q).1 → m ≡ min k (length tr)
+      → all ≡ lines ++ refuse_line (refusal_says q).0 (refusal_says q).1 → all ≡ old ++ ran_lines es tr (answer_says a)
   unfolding ran_lines answer_says refused
-  ran_refused zs on r k q e ek ep h w = rw (e, ← ek, ← ep, w, h, with_then)
+  ran_refused all k q e ek em w = rw (e, ← ek, ← front tr m k em, w, h, append_assoc)
 
 -- ---- the run from the initial state
 module _ (ws es : List ℕ) (passed : Passed ws) (i : Answer) (ei : answer_says i ≡ start_of ws) where
-  pub run_put : (tr xs ys : List ℕ) (at r s : ℕ) (a : Answer) → i ≡ Ok s → answer_says a ≡ (run_of ws s es (replicate Max.max_events 0) 0).answer
+  pub run_put : (tr old all : List ℕ) (s : ℕ) (a : Answer) → i ≡ Ok s → answer_says a ≡ (run_of ws s es (replicate Max.max_events 0) 0).answer
       → tr ≡ (run_of ws s es (replicate Max.max_events 0) 0).lent → Demand3 ws s es (replicate Max.max_events 0) 0 (answer_says a) tr
-      → Puts (ran_lines es tr (answer_says a)) xs at ys r → Puts (run_from_start ws es (start_of ws)) xs at ys r
+      → all ≡ old ++ ran_lines es tr (answer_says a) → all ≡ old ++ run_from_start ws es (start_of ws)
   unfolding run_from_start answer_says
-  run_put tr xs ys at r s a e ea et d h =
+  run_put tr old all s a e ea et d h =
       let o : ok s ≡ start_of ws = rw e at ei in
       let z : ℕ = 0 in
-      rw (← o) (h ∙ ap (λ (l : List ℕ). buffer xs at with l)
+      rw (← o) (h ∙ ap (λ (l : List ℕ). old ++ l)
       (ran_is ws passed.0 passed.1 s es (start_is ws passed.0 passed.1 s o) (replicate Max.max_events 0) tr (answer_says a) (length-replicate Max.max_events z) ea et (d passed.0 passed.1)))
 
   -- a set that passes has an initial state
-  pub start_put : (xs : List ℕ) (at : ℕ) (q : Refusal) → i ≡ Err q → Puts (run_from_start ws es (start_of ws)) xs at xs at
+  pub start_put : (old : List ℕ) → ((s : ℕ) → i ≡ Ok s → ⊥) → old ≡ old ++ run_from_start ws es (start_of ws)
   unfolding run_from_start answer_says refused
-  start_put xs at q e = let o = rw e at ei in rw (← o, with_none)
+  start_put old none = go i refl
+    where
+      go : (j : Answer) → i ≡ j → old ≡ old ++ run_from_start ws es (start_of ws)
+      go (Ok s) e = absurd (none s e)
+      go (Err q) e = let o = rw e at ei in rw (← o) (sym (append-nil old))

@@ -1,6 +1,4 @@
 pub mod Room
-pub mod Input
-pub mod Text
 pub mod Lines
 pub mod Runs
 pub mod Whole

@@ -1,44 +1,28 @@
 // The words of the input, lowest byte first.
-ghost use Rattle.std.specs.Prelude.{◌≡◌, ℕ, ◌<◌, ◌≤◌, length, take};
-ghost use Rattle.word.specs.Limits as Max;
+ghost use Rattle.std.specs.Prelude.{◌≡◌};
 ghost use Rattle.meaning.specs.Program.{input_word, input_words};
-ghost use Rattle.report.specs.Input.{word_count};
 
 use crate::MAX_INPUT_WORDS;
-use word::of_bytes;
+use arrayvec::ArrayVec;
 
-// Word i. "A broken last word" counts as 0.
-fn word_in(bytes: &[u8], i: usize) -> u32
-    requires { i < Max.max_input_words }
-    ensures { result ≡ input_word bytes.now i }
+// The word of the first four bytes. "A broken last word" counts as 0.
+#[tactic(auto, using(crate::proofs::Words::word_broken, crate::proofs::Words::word_whole))]
+fn word_of(bytes: &[u8]) -> u32
+    ensures { result ≡ input_word bytes.now 0 }
 {
-    let at = i * 4;
-    if bytes.len() < at + 4 {
-        return 0;
+    match bytes.first_chunk::<4>() {
+        Some(four) => u32::from_le_bytes(*four),
+        None => 0,
     }
-    of_bytes(bytes[at], bytes[at + 1], bytes[at + 2], bytes[at + 3])
 }
 
-// How many words there are, a broken last one among them.
-fn word_count(bytes: usize) -> usize
-    ensures value { result ≡ word_count bytes }
-    ensures upper_bound { result ≤ Max.max_input_words }
+// The words that are looked at, a broken last one among them.
+pub fn words_of(bytes: &[u8]) -> ArrayVec<u32, MAX_INPUT_WORDS>
+    ensures { result.items ≡ input_words bytes.now }
 {
-    if MAX_INPUT_WORDS * 4 <= bytes {
-        return MAX_INPUT_WORDS;
+    let mut words = ArrayVec::new();
+    for four in bytes.chunks(4).take(MAX_INPUT_WORDS) {
+        words.push(word_of(four));
     }
-    (bytes + 3) / 4
-}
-
-// The words, at the front of a list; how many.
-pub fn fill(bytes: &[u8], words: &mut [u32]) -> usize
-    requires { length words.old ≡ Max.max_input_words }
-    ensures words_after { take result words.new ≡ input_words bytes.now }
-    ensures upper_bound { result ≤ Max.max_input_words }
-{
-    let n = word_count(bytes.len());
-    for i in 0..n {
-        words[i] = word_in(bytes, i);
-    }
-    n
+    words
 }

@@ -1,5 +1,5 @@
 // Parts of lists of words.
-ghost use Rattle.std.specs.Prelude.{◌≡◌, ℕ, ◌≤◌, eqb, length, take};
+ghost use Rattle.std.specs.Prelude.{◌≡◌, ℕ, ◌≤◌, eqb, length};
 ghost use Rattle.word.specs.Fields as W;
 ghost use Rattle.meaning.specs.Program.{first_event};
 
@@ -20,15 +20,4 @@ pub fn first_event(words: &[u32]) -> usize
         .iter()
         .position(|word| is_event(*word))
         .unwrap_or(words.len())
-}
-
-// The first n words; all of them if there are fewer.
-pub fn front(words: &[u32], n: usize) -> &[u32]
-    ensures result_value { result.now ≡ take n words.now }
-    ensures result_in_bounds { length result.now ≤ length words.now }
-{
-    if words.len() < n {
-        return words;
-    }
-    &words[0..n]
 }

@@ -1,6 +1,5 @@
 use Rattle.report.proofs.Printing.{refusal_put}
-use borrow.Author.Rules.{rules}
 use Rattle.report.proofs.lines.put_refusal.Goals as goal
 
-pub returns : goal.returns
-returns c = record { puts = search refusal_put; upper_bound = search rules }
+pub returns-clause-puts : goal.returns-clause-puts
+returns-clause-puts g c = search refusal_put

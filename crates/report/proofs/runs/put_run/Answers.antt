@@ -1,9 +1,8 @@
 use Rattle.report.proofs.Running.{run_put, start_put}
-use borrow.Author.Rules.{rules}
 use Rattle.report.proofs.runs.put_run.Goals as goal
 
-pub returns-in-Ok : goal.returns-in-Ok
-returns-in-Ok c = record { puts = search run_put; upper_bound = search rules }
+pub returns-in-Ok-clause-puts : goal.returns-in-Ok-clause-puts
+returns-in-Ok-clause-puts g c = search run_put
 
-pub returns-in-Err : goal.returns-in-Err
-returns-in-Err c = record { puts = search start_put; upper_bound = search rules }
+pub returns-in_default-clause-puts : goal.returns-in_default-clause-puts
+returns-in_default-clause-puts g c = search start_put
