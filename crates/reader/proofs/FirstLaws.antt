@@ -1,11 +1,10 @@
 -- Laws of the word that a row, an assertion or a formula begins with: of the tests, and of what comes after them.
-use Rattle.std.specs.Prelude.{◌≡◌, refl, Bool, true, false, not, List, ℕ, ◌≤◌, eqb, ltb, length, Result, Ok, Err}
-use Rattle.std.proofs.Common.{sym, ◌∙◌, arith, lt-ltb}
+use Rattle.std.specs.Prelude.{◌≡◌, refl, Bool, true, false, not, List, ℕ, ◌≤◌, ltb, length, Ok, Err}
+use Rattle.std.proofs.Common.{arith, lt-ltb}
 use borrow.Author.Tests.{not-true, not-false}
 use Rattle.meaning.specs.Answers.{Parse, fine, stop, ◌>>>◌, expect}
 use Rattle.meaning.specs.Searches.{mem}
 use Rattle.meaning.specs.Reading.{word, fits, word_at}
-use Rattle.reader.specs.declared.faults.Fault.{Fault}
 use Rattle.reader.specs.declared.faults.Fault.TheVariants.{Kind, Limit}
 use Rattle.reader.specs.Faults.{refusal, carried}
 use Rattle.reader.specs.First.{first_word, first_said}
