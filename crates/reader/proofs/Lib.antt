@@ -1,6 +1,5 @@
 mod TestLaws
 mod Answers
-mod WordLaws
 mod FirstLaws
 mod VariableLaws
 mod FormulaLaws
