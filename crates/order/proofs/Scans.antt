@@ -98,16 +98,13 @@ module _ (ws : List ℕ) (n at w o : ℕ) (nz : n ≡ 0 → ⊥) (h : at < lengt
 pub ruleset event_laws = (event_none, event_past, event_or, event_change, event_constant)
 
 -- ---- the formula of a row
-module _ (ws : List ℕ) (t at : ℕ) (r : Masked) where
-  pub formula_condition : t ≡ 3 → r ≡ condition_mask ws Max.max_depth at → r ≡ formula_mask ws t at
-  unfolding formula_mask
-  formula_condition e er = rw e er
+pub condition_formula : (ws : List ℕ) (t at : ℕ) (r : Masked) → t ≡ 3 → r ≡ condition_mask ws Max.max_depth at → r ≡ formula_mask ws t at
+unfolding formula_mask
+condition_formula ws t at r e er = rw e er
 
-  pub formula_event : (t ≡ 3 → ⊥) → r ≡ event_mask ws Max.max_depth at → r ≡ formula_mask ws t at
-  unfolding formula_mask
-  formula_event n er = rw (ne_eqb t 3 n) er
-
-pub ruleset formula_laws = (formula_condition, formula_event)
+pub event_formula : (ws : List ℕ) (t at : ℕ) (r : Masked) → (t ≡ 3 → ⊥) → r ≡ event_mask ws Max.max_depth at → r ≡ formula_mask ws t at
+unfolding formula_mask
+event_formula ws t at r n er = rw (ne_eqb t 3 n) er
 
 -- ---- rows: what is left from here is the whole
 rows_zero : (ws : List ℕ) (t p m : ℕ) → rows_mask ws t 0 p m ≡ m
@@ -151,8 +148,6 @@ module _ (ws : List ℕ) (t i on m at first : ℕ) (inv : rows_mask ws t (Max.ma
     pub rows_on : k ≡ 3 → rows_mask ws t (Max.max_rows - (i + 1)) j.next (bit_or m j.mask) ≡ rows_mask ws t Max.max_rows at first
     rows_on e = rw (eq-eqb k 3 e) at turn
 
-pub ruleset rows_laws = (rows_past, rows_all, rows_last, rows_on)
-
 -- ---- a table
 pub table_none : (ws ps : List ℕ) (v p : ℕ) → p ≡ get_or ps v 0 → p ≡ 0 → 0 ≡ table_mask ws (get_or ps v 0)
 unfolding table_mask
@@ -173,8 +168,6 @@ module _ (ws ps : List ℕ) (v p w t r : ℕ) (ep : p ≡ get_or ps v 0) (np : p
   pub table_event : (t ≡ 3 → ⊥) → r ≡ rows_mask ws t Max.max_rows p 0 → r ≡ table_mask ws (get_or ps v 0)
   table_event n er = er ∙ rw (← ep, ← table_by ws p np, ← ew, ← et, ne_eqb t 3 n)
 
-pub ruleset table_laws = (table_none, table_condition, table_event)
-
 -- ---- the masks of all variables: those filled in so far are the first of them
 abbrev pub masks_to : List ℕ → List ℕ → ℕ → List ℕ
 masks_to ws ps n = list_of (λ v. table_mask ws (get_or ps v 0)) n
@@ -184,17 +177,17 @@ unfolding list_of
 masks_none ws ps [] = refl
 masks_none ws ps (m ∷ ms) = refl
 
-pub masks_on : (ws ps ms : List ℕ) (n v m : ℕ) → length ms ≡ n → v < n → take v ms ≡ masks_to ws ps v
+pub masks_on : (ws ps ms : List ℕ) (v m : ℕ) → length ms ≡ Max.max_variables → v < Max.max_variables → take v ms ≡ masks_to ws ps v
     → m ≡ table_mask ws (get_or ps v 0) → take (v + 1) (set ms v m) ≡ masks_to ws ps (v + 1)
 unfolding list_of
-masks_on ws ps ms n v m l h i em =
+masks_on ws ps ms v m l h i em =
     let b : v < length ms = omega arith in
     rw (add-one v, take-suc-set ms v m b, i, em)
 
-pub masks_all : (ws ps ms : List ℕ) (n v : ℕ) → length ms ≡ n → n ≡ Max.max_variables → v ≤ n → n ≤ v → take v ms ≡ masks_to ws ps v
+pub masks_all : (ws ps ms : List ℕ) (v : ℕ) → length ms ≡ Max.max_variables → v ≤ Max.max_variables → Max.max_variables ≤ v → take v ms ≡ masks_to ws ps v
     → ms ≡ masks_at ws ps
 unfolding masks_at
-masks_all ws ps ms n v l m h k i =
+masks_all ws ps ms v l h k i =
     let e : v ≡ Max.max_variables = omega arith in
     let b : length ms ≤ Max.max_variables = omega arith in
     sym (take_all Max.max_variables ms b) ∙ (rw e at i)

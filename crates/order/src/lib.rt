@@ -4,7 +4,8 @@
 
 mod taking; // the order and the cycle, from the masks
 
-ghost use Rattle.std.specs.Prelude.{◌≡◌, ◌≤◌, length, get_or, take};
+ghost use Rattle.std.specs.Prelude.{◌≡◌, ℕ, ◌≤◌, length, get_or, take};
+ghost use Rattle.order.specs.declared.Masked.{Masked};
 ghost use Rattle.word.specs.Limits as Max;
 ghost use Rattle.order.specs.Masks.{condition_mask, event_mask, formula_mask, rows_mask, table_mask, masks_at};
 ghost use Rattle.order.specs.Orders.{cycle_said, order_at, no_cycle_at};
@@ -97,22 +98,10 @@ pub fn event_mask(words: &[u32], at: usize, left: usize) -> Masked
     }
 }
 
-// The formula of a row in a table of type t.
-#[tactic(auto, using(crate::proofs::Scans::formula_laws))]
-fn formula_mask(words: &[u32], t: u32, at: usize) -> Masked
-    ensures { result ≡ formula_mask words.now t at }
-{
-    if t == TableType::Condition as u32 {
-        condition_mask(words, at, MAX_DEPTH)
-    } else {
-        event_mask(words, at, MAX_DEPTH)
-    }
-}
-
-// `first` and what the rows from a place on read.
-#[tactic(auto, using(crate::proofs::Scans::rows_laws))]
-fn rows_mask(words: &[u32], t: u32, at: usize, first: u32) -> u32
-    ensures { result ≡ rows_mask words.now t Max.max_rows at first }
+// `first` and what the rows from a place on read. What the formula of a row reads is `formula`'s matter: t is the type of the tables whose formulas it reads.
+fn rows_mask<F: Fn(usize) -> Masked>(words: &[u32], at: usize, first: u32, formula: F) -> u32
+    requires { F.IsAlwaysCallable formula }
+    ensures { (t : ℕ) → ((x : ℕ) (r : Masked) → F.post formula x r → r ≡ formula_mask words.now t x) → result ≡ rows_mask words.now t Max.max_rows at first }
 {
     let mut mask = first;
     let mut on = at;
@@ -121,7 +110,7 @@ fn rows_mask(words: &[u32], t: u32, at: usize, first: u32) -> u32
         if words.len() <= on {
             return mask;
         }
-        let j = formula_mask(words, t, on + 1);
+        let j = formula(on + 1);
         mask |= j.mask;
         on = j.next;
         let w = word_at(words, on);
@@ -133,7 +122,7 @@ fn rows_mask(words: &[u32], t: u32, at: usize, first: u32) -> u32
 }
 
 // What variable v reads. A table of type 3 reads the class that its table word names, whatever its rows' modes.
-#[tactic(auto, using(crate::proofs::Scans::table_laws))]
+#[tactic(auto, using(crate::proofs::Scans::table_none))]
 fn table_mask(set: &Variables, v: usize) -> u32
     ensures { result ≡ table_mask set.now.words.now (get_or set.now.places.now v 0) }
 {
@@ -141,20 +130,21 @@ fn table_mask(set: &Variables, v: usize) -> u32
     if p == 0 {
         return 0;
     }
-    let w = word_at(set.words, p - 1);
-    let t = sort(w);
-    if t == TableType::Condition as u32 {
+    let words = set.words;
+    let w = word_at(words, p - 1);
+    if sort(w) == TableType::Condition as u32 {
         let c = class_read(w) as usize;
-        rows_mask(set.words, t, p, one_bit(c))
+        rows_mask(words, p, one_bit(c), |i| {
+            condition_mask(words, i, MAX_DEPTH)
+        })
     } else {
-        rows_mask(set.words, t, p, 0)
+        rows_mask(words, p, 0, |i| event_mask(words, i, MAX_DEPTH))
     }
 }
 
 // The masks of all variables. Past the last variable there is no table and the mask is 0.
 #[tactic(auto, using(crate::proofs::Scans::masks_laws))]
-pub fn fill_masks(set: &Variables, masks: &mut [u32])
-    requires { length masks.old ≡ Max.max_variables }
+pub fn fill_masks(set: &Variables, masks: &mut [u32; MAX_VARIABLES])
     ensures { masks.new ≡ masks_at set.now.words.now set.now.places.now }
 {
     for (v, mask) in masks.iter_mut().enumerate() {
@@ -171,12 +161,12 @@ pub struct Cycle {
 
 // Writes the dependency order to the front of `order`, as far as it goes; what stands after it has no meaning. Where a cycle keeps it from
 // reaching every variable, the error shows it.
+// That there are no more variables than a set may have is a clause: `Variables` can't hold it, since other calls take any number of them.
 #[tactic(auto, using(crate::proofs::Takes::tables_laws))]
-pub fn order_tables(set: &Variables, order: &mut [usize]) -> Result<(), Cycle>
-    requires { (set.now.count ≤ Max.max_variables) × (length order.old ≡ Max.max_variables) }
+pub fn order_tables(set: &Variables, order: &mut [usize; MAX_VARIABLES]) -> Result<(), Cycle>
+    requires { set.now.count ≤ Max.max_variables }
     ensures result_value { cycle_said result ≡ no_cycle_at set.now.words.now set.now.places.now set.now.count }
     ensures order_after { take (length (order_at set.now.words.now set.now.places.now set.now.count)) order.new ≡ order_at set.now.words.now set.now.places.now set.now.count }
-    ensures order_len { length order.new ≡ Max.max_variables }
 {
     let mut masks = [0u32; MAX_VARIABLES];
     fill_masks(set, &mut masks);

@@ -1,4 +1,5 @@
 // The dependency order, and the cycle shown where variables are stuck, from the masks of what each variable reads.
+// That a single variable's number is in range stays a clause: a type that held it would be made anew at every turn of a loop and taken apart at every index.
 ghost use Rattle.std.specs.Prelude.{◌≡◌, not, ◌||◌, ◌≤◌, ◌<◌, length, get_or, take};
 ghost use Rattle.word.specs.Limits as Max;
 ghost use Rattle.index.specs.Bits.{bit_in};
@@ -8,7 +9,7 @@ ghost use Rattle.order.specs.Orders.{covered, untaken_by, ready_by, least_ready,
 use crate::Cycle;
 use index::bits::{bit, one_bit};
 use index::element;
-use word::CYCLE_MOVES;
+use word::{CYCLE_MOVES, MAX_VARIABLES};
 
 // The variables while they are put in order: what each of them reads, as a mask, how many they are, and the mask of those taken so far.
 #[derive(Clone, Copy)]
@@ -126,11 +127,10 @@ impl<'a> Taking<'a> {
 
 // Writes the order of the variables that have these masks, and gives the mask of those in it.
 #[tactic(auto, using(crate::proofs::Takes::taking_laws))]
-pub fn take_ready(masks: &[u32], count: usize, order: &mut [usize]) -> u32
-    requires { (count ≤ Max.max_variables) × (length order.old ≡ Max.max_variables) }
+pub fn take_ready(masks: &[u32], count: usize, order: &mut [usize; MAX_VARIABLES]) -> u32
+    requires { count ≤ Max.max_variables }
     ensures value { result ≡ taken_by masks.now count }
     ensures order_after { take (length (order_by masks.now count)) order.new ≡ order_by masks.now count }
-    ensures order_len { length order.new ≡ Max.max_variables }
 {
     let mut taken = 0u32;
     for place in &mut order[..count] {

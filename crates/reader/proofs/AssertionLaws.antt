@@ -1,66 +1,58 @@
 -- Laws of read_assertion and read_assertions, one for each way out.
-use Rattle.std.specs.Prelude.{◌≡◌, refl, Bool, true, false, not, List, [], ◌∷◌, ℕ, zero, suc, ◌+◌, ◌-◌, ◌≤◌, ◌<◌, eqb, leb, ltb, length, Result, Ok, Err, is_ok}
+use Rattle.std.specs.Prelude.{◌≡◌, refl, Bool, true, false, not, List, [], ◌∷◌, ℕ, zero, suc, ◌+◌, ◌-◌, ◌≤◌, ◌<◌, eqb, leb, length, Result, Ok, Err, is_ok}
 use Rattle.std.proofs.Common.{sym, ap, ◌∙◌, arith, add-one, le-leb}
-use borrow.Author.Tests.{lt-leb, not-true, not-false}
+use borrow.Author.Tests.{lt-leb}
 use Rattle.word.specs.Fields as W
 use Rattle.word.specs.Kinds.{IsAssertionType}
 use Rattle.word.specs.declared.kinds.AssertionType.{AssertionType}
 use Rattle.word.specs.declared.kinds.Unnamed.{Unnamed}
 use Rattle.word.specs.Limits as Max
-use Rattle.meaning.specs.Searches.{mem}
-use Rattle.meaning.specs.Syntax.{Variable}
-use Rattle.meaning.specs.Reading.{word, fits, read_condition, read_assertion, read_assertions}
+use Rattle.meaning.specs.Answers.{◌>>>◌, expect}
+use Rattle.meaning.specs.Syntax.{Condition, Variable}
+use Rattle.meaning.specs.Reading.{Read, read_condition, read_assertion, read_assertions}
 use Rattle.theory.specs.Loops.{left}
 use Rattle.index.specs.Places.{Next, reach, then_at}
 use Rattle.reader.specs.declared.faults.Fault.{Fault}
-use Rattle.reader.specs.declared.faults.Fault.TheVariants.{Kind, Range, Limit}
-use Rattle.reader.specs.Faults.{reached}
-use Rattle.reader.proofs.TestLaws.{kind_past}
+use Rattle.reader.specs.declared.faults.Fault.TheVariants.{Range}
+use Rattle.reader.specs.Faults.{refusal, carried, reached}
+use Rattle.reader.specs.First.{first_word, first_said}
 use Rattle.reader.proofs.Answers.{made_reach, two_reach, then_next, then_stop}
-use Rattle.theory.specs.Readers.{word_then}
-use Rattle.reader.proofs.WordLaws.{tested, unfit, no_room, out_of_range, passed, above_zero}
+use Rattle.reader.proofs.FirstLaws.{first_then}
 
--- ---- an assertion
-module _ (ws : List ℕ) (vs : List Variable) (l at : ℕ) where
-  assertion_tested : reach (read_assertion ws vs l at)
-      ≡ reach (tested (fits (10 ∷ []) (word ws at)) (ltb 0 l) (eqb (W.sort (word ws at)) 1) true at (read_condition ws vs Max.max_depth (suc at)))
+-- ---- an assertion, which r is the first word of
+module _ (ws : List ℕ) (vs : List Variable) (l at : ℕ) (r : Result ℕ Fault) (er : first_said r ≡ first_word ws (10 ∷ []) l at) where
+  -- what comes after the first word
+  abbrev after : ℕ → Read Condition
+  after w = expect (eqb (W.sort w) 1) 3 at >>> λ _. read_condition ws vs Max.max_depth (suc at)
+
+  assertion_begins : reach (first_said r >>> after) ≡ reach (read_assertion ws vs l at)
   unfolding read_assertion
-  assertion_tested = ap reach (word_then ws (10 ∷ []) at _)
+  assertion_begins = ap reach (rw er (sym (first_then ws (10 ∷ []) l at after)))
 
-  pub assertion_past : length ws ≤ at → reached (Err (Kind at)) ≡ reach (read_assertion ws vs l at)
-  unfolding fits mem
-  assertion_past h = let e : fits (10 ∷ []) (word ws at) ≡ false = rw (kind_past ws at h) in unfit (fits (10 ∷ []) (word ws at)) (ltb 0 l) (eqb (W.sort (word ws at)) 1) true at (read_condition ws vs Max.max_depth (suc at)) e ∙ sym assertion_tested
+  pub assertion_stops : (q : Fault) → r ≡ Err q → reached (Err q) ≡ reach (read_assertion ws vs l at)
+  unfolding first_said reached reach
+  assertion_stops q e = let h : reached (Err q) ≡ reach (first_said r >>> after) = rw e in h ∙ assertion_begins
 
-  module _ (w : ℕ) (f : Bool) (ew : w ≡ word ws at) (ef : f ≡ fits (10 ∷ []) w) where
-    fitting : (b : Bool) → f ≡ b → fits (10 ∷ []) (word ws at) ≡ b
-    fitting b e = rw (← ew, ← ef) e
+  -- whether its type has a name
+  module _ (w s : ℕ) (e : r ≡ Ok w) (es : s ≡ W.sort w) (a : Result AssertionType Unnamed) (ea : IsAssertionType s a)
+      (b : Bool) (eb : is_ok a ≡ not b) where
+    typed : (c : Bool) → not b ≡ c → eqb (W.sort w) 1 ≡ c
+    typed c h = rw (← es) (sym ea.0 ∙ eb ∙ h)
 
-    pub assertion_unfit : not f ≡ true → reached (Err (Kind at)) ≡ reach (read_assertion ws vs l at)
-    assertion_unfit e = unfit (fits (10 ∷ []) (word ws at)) (ltb 0 l) (eqb (W.sort (word ws at)) 1) true at (read_condition ws vs Max.max_depth (suc at)) (fitting false (not-true f e)) ∙ sym assertion_tested
+    pub assertion_range : b ≡ true → reached (Err (Range at)) ≡ reach (read_assertion ws vs l at)
+    unfolding first_said reached refusal carried reach
+    assertion_range n =
+        let h : reached (Err (Range at)) ≡ reach (first_said r >>> after) = rw (e, typed false (rw n)) in
+        h ∙ assertion_begins
 
-    module _ (fit : not f ≡ false) where
-      pub assertion_over : l ≡ 0 → reached (Err (Limit at)) ≡ reach (read_assertion ws vs l at)
-      assertion_over z = let e : ltb 0 l ≡ false = rw z in no_room (fits (10 ∷ []) (word ws at)) (ltb 0 l) (eqb (W.sort (word ws at)) 1) true at (read_condition ws vs Max.max_depth (suc at)) (fitting true (not-false f fit)) e ∙ sym assertion_tested
+    pub assertion_on : (c : Result ℕ Fault) → b ≡ false → reached c ≡ reach (read_condition ws vs Max.max_depth (at + 1))
+        → reached c ≡ reach (read_assertion ws vs l at)
+    unfolding first_said
+    assertion_on c n ec =
+        let h : reach (read_condition ws vs Max.max_depth (suc at)) ≡ reach (first_said r >>> after) = rw (e, typed true (rw n)) in
+        ec ∙ rw (add-one at) h ∙ assertion_begins
 
-      -- whether its type has a name
-      module _ (nz : l ≡ 0 → ⊥) (s : ℕ) (es : s ≡ W.sort w) (a : Result AssertionType Unnamed) (ea : IsAssertionType s a)
-          (b : Bool) (eb : is_ok a ≡ not b) where
-        typed : (c : Bool) → not b ≡ c → eqb (W.sort (word ws at)) 1 ≡ c
-        typed c e = rw (← ew, ← es) (sym ea.0 ∙ eb ∙ e)
-
-        pub assertion_range : b ≡ true → reached (Err (Range at)) ≡ reach (read_assertion ws vs l at)
-        assertion_range e =
-            let n : not b ≡ false = rw e in
-            out_of_range _ _ _ true at _ (fitting true (not-false f fit)) (above_zero l nz) (typed false n) ∙ sym assertion_tested
-
-        pub assertion_on : (r : Result ℕ Fault) → b ≡ false → reached r ≡ reach (read_condition ws vs Max.max_depth (at + 1))
-            → reached r ≡ reach (read_assertion ws vs l at)
-        assertion_on r e er =
-            let n : not b ≡ true = rw e in
-            er ∙ rw (add-one at) (passed _ _ _ true at _ (fitting true (not-false f fit)) (above_zero l nz) (typed true n) refl)
-            ∙ sym assertion_tested
-
-pub ruleset assertion_laws = (assertion_past, assertion_unfit, assertion_over, assertion_range, assertion_on)
+pub ruleset assertion_laws = (assertion_stops, assertion_range, assertion_on)
 
 -- ---- the assertions: what is left to read from here is the whole reading
 module _ (ws : List ℕ) (vs : List Variable) where

@@ -1,6 +1,6 @@
 mod TestLaws
 mod Answers
-mod WordLaws
+mod FirstLaws
 mod VariableLaws
 mod FormulaLaws
 mod RowLaws

@@ -1,5 +1,5 @@
 -- Laws of read_formula, read_row and read_rows, one for each way out.
-use Rattle.std.specs.Prelude.{◌≡◌, refl, Bool, true, false, not, List, [], ◌∷◌, ℕ, suc, ◌+◌, ◌-◌, ◌≤◌, ◌<◌, eqb, ltb, length, Result, Ok, Err, ◌⊎◌}
+use Rattle.std.specs.Prelude.{◌≡◌, refl, Bool, true, false, not, List, [], ◌∷◌, ℕ, suc, ◌+◌, ◌-◌, ◌≤◌, ◌<◌, eqb, Result, Ok, Err, ◌⊎◌}
 use Rattle.std.proofs.Common.{inl, inr, sym, ap, ◌∙◌, arith, add-one, ne_eqb}
 use borrow.Author.Tests.{not-true, not-false}
 use Rattle.word.specs.Fields as W
@@ -7,20 +7,18 @@ use Rattle.word.specs.Kinds.{table_type_number}
 use Rattle.word.specs.declared.kinds.TableType.{TableType}
 use Rattle.word.specs.declared.kinds.TableType.TheVariants as T
 use Rattle.word.specs.Limits as Max
-use Rattle.meaning.specs.Answers.{fine, ◌>>>◌, if◌give◌else◌}
-use Rattle.meaning.specs.Searches.{mem}
+use Rattle.meaning.specs.Answers.{fine, ◌>>>◌, expect, if◌give◌else◌}
 use Rattle.meaning.specs.Syntax.{Condition, Event, Variable, Row}
-use Rattle.meaning.specs.Reading.{Read, word, fits, row_ok, row_of, rows_by, read_condition, read_event, read_row, read_rows}
+use Rattle.meaning.specs.Reading.{Read, word, row_ok, row_of, rows_by, read_condition, read_event, read_row, read_rows}
 use Rattle.theory.specs.Loops.{left}
 use Rattle.index.specs.Places.{Reached, Next, reach, then_at}
 use Rattle.reader.specs.declared.faults.Fault.{Fault}
-use Rattle.reader.specs.declared.faults.Fault.TheVariants.{Kind, Range, Limit}
-use Rattle.reader.specs.Faults.{reached}
+use Rattle.reader.specs.declared.faults.Fault.TheVariants.{Range}
+use Rattle.reader.specs.Faults.{refusal, carried, reached}
+use Rattle.reader.specs.First.{first_word, first_said}
 use Rattle.reader.specs.Formulas.{by_type, formula_reach, row_reach, rows_reach}
-use Rattle.reader.proofs.TestLaws.{kind_past}
 use Rattle.reader.proofs.Answers.{then_reach, made_reach, then_next, then_stop}
-use Rattle.theory.specs.Readers.{word_then}
-use Rattle.reader.proofs.WordLaws.{tested, unfit, no_room, out_of_range, passed, above_zero}
+use Rattle.reader.proofs.FirstLaws.{first_then}
 
 -- ---- the formula of a row
 module _ (ws : List ℕ) (vs : List Variable) (t : TableType) (at : ℕ) (r : Result ℕ Fault) where
@@ -39,12 +37,6 @@ row_then true r j = r
 row_then false r j = Next j
 
 module _ (ws : List ℕ) (vs : List Variable) {F : Type 0} (formula : ℕ → Read F) (v m : ℕ) where
-  row_tested : (l at : ℕ) → reach (read_row ws vs formula v m l at)
-      ≡ reach (tested (fits (3 ∷ []) (word ws at)) (ltb 0 l) (row_ok vs v m (word ws at)) true at
-      (formula (suc at) >>> λ r. fine (row_of (word ws at) r.0, r.1)))
-  unfolding read_row
-  row_tested l at = ap reach (word_then ws (3 ∷ []) at _)
-
   rows_by_lem : (rec : ℕ → Read (List (Row F))) (k : ℕ) (p : Row F × ℕ)
       → reach (rows_by k rec p) ≡ row_then (eqb k 3) (reach (rec p.1)) p.1
   unfolding rows_by reach
@@ -80,56 +72,48 @@ module _ (ws : List ℕ) (vs : List Variable) (t : ℕ) where
       go true = same Condition (read_condition ws vs Max.max_depth)
       go false = same Event (read_event ws vs Max.max_depth)
 
--- ---- a row of a table of type t
-module _ (ws : List ℕ) (vs : List Variable) (t v m l at : ℕ) where
+-- ---- a row of a table of type t, which r is the first word of
+module _ (ws : List ℕ) (vs : List Variable) (t v m l at : ℕ) (r : Result ℕ Fault) (er : first_said r ≡ first_word ws (3 ∷ []) l at) where
+  -- what comes after the first word
+  abbrev after : {F : Type 0} → (ℕ → Read F) → ℕ → Read (Row F)
+  after formula w = expect (row_ok vs v m w) 3 at >>> λ _. formula (suc at) >>> λ p. fine (row_of w p.0, p.1)
+
+  row_begins : {F : Type 0} (formula : ℕ → Read F) → reach (first_said r >>> after formula) ≡ reach (read_row ws vs formula v m l at)
+  unfolding read_row
+  row_begins formula = ap reach (rw er (sym (first_then ws (3 ∷ []) l at (after formula))))
+
   -- a fault that does not ask for the formula
-  row_refused : (q : Fault)
-      → ((F : Type 0) (r : Read (Row F)) → reached (Err q) ≡ reach (tested (fits (3 ∷ []) (word ws at)) (ltb 0 l) (row_ok vs v m (word ws at)) true at r))
+  row_refused : (q : Fault) → ((F : Type 0) (formula : ℕ → Read F) → reached (Err q) ≡ reach (first_said r >>> after formula))
       → reached (Err q) ≡ row_reach ws vs t v m l at
   unfolding row_reach
   row_refused q e =
       always (eqb t 3) ∙ by_type_lem ws vs t (λ F formula. reached (Err q)) (λ F formula. reach (read_row ws vs formula v m l at))
-      (λ F formula. e F _ ∙ sym (row_tested ws vs formula v m l at))
+      (λ F formula. e F formula ∙ row_begins formula)
     where
       always : (b : Bool) → reached (Err q) ≡ (if b give (λ _. reached (Err q)) else (λ _. reached (Err q)))
       always true = refl
       always false = refl
 
-  pub row_past : length ws ≤ at → reached (Err (Kind at)) ≡ row_reach ws vs t v m l at
-  unfolding fits mem
-  row_past h = let e : fits (3 ∷ []) (word ws at) ≡ false = rw (kind_past ws at h) in row_refused (Kind at) (λ F r. unfit (fits (3 ∷ []) (word ws at)) (ltb 0 l) (row_ok vs v m (word ws at)) true at r e)
+  pub row_stops : (q : Fault) → r ≡ Err q → reached (Err q) ≡ row_reach ws vs t v m l at
+  unfolding first_said reached reach
+  row_stops q e = row_refused q (λ F formula. rw e)
 
-  module _ (w : ℕ) (f : Bool) (ew : w ≡ word ws at) (ef : f ≡ fits (3 ∷ []) w) where
-    fitting : (b : Bool) → f ≡ b → fits (3 ∷ []) (word ws at) ≡ b
-    fitting b e = rw (← ew, ← ef) e
+  module _ (w : ℕ) (e : r ≡ Ok w) (b : Bool) (eb : b ≡ row_ok vs v m w) where
+    pub row_range : not b ≡ true → reached (Err (Range at)) ≡ row_reach ws vs t v m l at
+    unfolding first_said reached refusal carried reach
+    row_range n = row_refused (Range at) (λ F formula. rw (e, ← eb, not-true b n))
 
-    pub row_unfit : not f ≡ true → reached (Err (Kind at)) ≡ row_reach ws vs t v m l at
-    row_unfit e = row_refused (Kind at) (λ F r. unfit (fits (3 ∷ []) (word ws at)) (ltb 0 l) (row_ok vs v m (word ws at)) true at r (fitting false (not-true f e)))
+    pub row_on : (a : Result ℕ Fault) → not b ≡ false → reached a ≡ formula_reach ws vs t (at + 1) → reached a ≡ row_reach ws vs t v m l at
+    unfolding row_reach formula_reach first_said
+    row_on a n ea =
+        ea ∙ rw (add-one at)
+        (by_type_lem ws vs t (λ F formula. reach (formula (suc at))) (λ F formula. reach (read_row ws vs formula v m l at))
+        (λ F formula. sym (made_reach (formula (suc at)) (λ p. row_of w p.0)) ∙ rest F formula ∙ row_begins formula))
+      where
+        rest : (F : Type 0) (formula : ℕ → Read F) → reach (formula (suc at) >>> λ p. fine (row_of w p.0, p.1)) ≡ reach (first_said r >>> after formula)
+        rest F formula = rw (e, ← eb, not-false b n)
 
-    module _ (fit : not f ≡ false) where
-      pub row_over : l ≡ 0 → reached (Err (Limit at)) ≡ row_reach ws vs t v m l at
-      row_over z =
-          let e : ltb 0 l ≡ false = rw z in
-          row_refused (Limit at) (λ F r. no_room (fits (3 ∷ []) (word ws at)) (ltb 0 l) (row_ok vs v m (word ws at)) true at r (fitting true (not-false f fit)) e)
-
-      module _ (nz : l ≡ 0 → ⊥) (b : Bool) (eb : b ≡ row_ok vs v m w) where
-        ranged : (c : Bool) → b ≡ c → row_ok vs v m (word ws at) ≡ c
-        ranged c e = rw (← ew, ← eb) e
-
-        pub row_range : not b ≡ true → reached (Err (Range at)) ≡ row_reach ws vs t v m l at
-        row_range e =
-            row_refused (Range at) (λ F r. out_of_range _ _ _ true at r (fitting true (not-false f fit)) (above_zero l nz) (ranged false (not-true b e)))
-
-        pub row_on : (r : Result ℕ Fault) → not b ≡ false → reached r ≡ formula_reach ws vs t (at + 1) → reached r ≡ row_reach ws vs t v m l at
-        unfolding row_reach formula_reach
-        row_on r e er =
-            er ∙ rw (add-one at)
-            (by_type_lem ws vs t (λ F formula. reach (formula (suc at))) (λ F formula. reach (read_row ws vs formula v m l at))
-            (λ F formula. sym (made_reach (formula (suc at)) _)
-            ∙ passed _ _ _ true at _ (fitting true (not-false f fit)) (above_zero l nz) (ranged true (not-false b e)) refl
-            ∙ sym (row_tested ws vs formula v m l at)))
-
-pub ruleset row_laws = (row_past, row_unfit, row_over, row_range, row_on)
+pub ruleset row_laws = (row_stops, row_range, row_on)
 
 -- ---- the rows of a table of type t: what is left to read from here is the whole reading
 module _ (ws : List ℕ) (vs : List Variable) (t v m : ℕ) where

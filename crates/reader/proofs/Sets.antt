@@ -14,7 +14,7 @@ use Rattle.index.proofs.Means.{count_is, variable_is, initial_is, held_is, weigh
 use Rattle.reader.specs.declared.Sections.{Sections}
 use Rattle.reader.specs.declared.counts.Counted.{Counted}
 use Rattle.reader.specs.declared.faults.Fault.{Fault}
-use Rattle.reader.specs.Counts.{tabled_at, starts_at_zero_at, few_states_at, typed_at, WeightsTo, CountedAs}
+use Rattle.reader.specs.Counts.{is_tabled, tabled_at, is_zero_at_first, starts_at_zero_at, few_states_at, typed_at, WeightsTo, CountedAs}
 use Rattle.reader.specs.Typed.{ReadAs, TypedSet, TypedAs}
 use Rattle.reader.proofs.Places.{places_have}
 
@@ -27,11 +27,11 @@ every_same f g (suc n) h = rw (every_same f g n (λ k l. h k (omega arith)), h n
 -- ---- by the index
 module _ {ws : List ℕ} {z : TableSet} {n a : ℕ} {ps : List ℕ} (ix : Indexed ws z n a ps) where
   tabled_is : (v : ℕ) → v < n → tabled_at ws ps v ≡ tabled z v
-  unfolding tabled_at tabled is_monitored variable_of
+  unfolding tabled_at is_tabled tabled is_monitored variable_of
   tabled_is v l = rw (variable_is ix v l, places_have ws (variables_to ws ps n) z.tables ps ix.tables_are v (omega (arith, ix.few)))
 
   starts_is : (v : ℕ) → v < n → starts_at_zero_at ws ps v ≡ starts_at_zero z v
-  unfolding starts_at_zero_at starts_at_zero
+  unfolding starts_at_zero_at is_zero_at_first starts_at_zero
   starts_is v l =
       rw (held_is ix v l) (ap (λ (k : ℕ). demand (is_held (source z v) || eqb k 0) 7 (v ∷ [])) (initial_is ix v l))
 

@@ -6,7 +6,6 @@ use Rattle.word.specs.Fields as W
 use Rattle.word.specs.Kinds.{table_type_number}
 use Rattle.word.specs.Limits as Max
 use Rattle.meaning.specs.Answers.{Parse, fine, stop, ◌>>>◌, expect, if◌give◌else◌}
-use Rattle.meaning.specs.Searches.{mem}
 use Rattle.meaning.specs.Syntax.{Condition, Event, Variable, Row, Table, condition_table}
 use Rattle.meaning.specs.Reading.{Read, word, fits, table_ok, table_fits, body_of, event_table_by, word_at, read_condition, read_event, read_rows, read_body, read_table}
 use Rattle.theory.specs.Loops.{left}
@@ -15,15 +14,15 @@ use Rattle.theory.specs.TablesRead.{defined_below}
 use Rattle.index.specs.Places.{Reached, Next, Refused, reach, told, place_count, variables_to}
 use Rattle.index.proofs.Laws.{variables_length, variables_kept}
 use Rattle.reader.specs.declared.faults.Fault.{Fault}
-use Rattle.reader.specs.declared.faults.Fault.TheVariants.{Kind, Fit, Order}
+use Rattle.reader.specs.declared.faults.Fault.TheVariants.{Fit, Order}
 use Rattle.reader.specs.Faults.{refusal, carried, reached}
+use Rattle.reader.specs.First.{first_word, first_said}
 use Rattle.reader.specs.declared.headings.Heading.{Heading}
 use Rattle.reader.specs.Headings.{HeadingOf, HeadingAs}
 use Rattle.reader.specs.Formulas.{rows_reach}
 use Rattle.reader.specs.Tables.{is_placed, next_place, read_places}
 use Rattle.reader.proofs.TestLaws.{kind_past}
 use Rattle.reader.proofs.Answers.{made_reach, refused_not_next}
-use Rattle.reader.proofs.WordLaws.{tested, unfit, out_of_range, unsuited, passed}
 
 -- ---- a table: its rows as the meaning reads them, and the table made of them
 module _ (ws : List ℕ) (vs : List Variable) (w i : ℕ) where
@@ -49,84 +48,80 @@ module _ (ws : List ℕ) (vs : List Variable) (w i : ℕ) where
       go true = sym (made_reach condition_rows _)
       go false = sym (made_reach event_rows _)
 
-module _ (ws : List ℕ) (vs : List Variable) (at : ℕ) (taken lower : Bool) where
-  -- what comes after the first four tests
-  abbrev table_in_order : Read Table
-  table_in_order = expect (not lower) 21 at >>> λ _. read_body ws vs (word ws at) (suc at)
-
-  table_tested : reach (read_table ws vs at taken lower)
-      ≡ reach (tested (fits (2 ∷ []) (word ws at)) true (table_ok vs (word ws at)) (table_fits vs (word ws at) && not taken) at table_in_order)
-  unfolding read_table
-  table_tested = ap reach (word_then ws (2 ∷ []) at _)
+-- the two tests of the fields of the word at i, then m
+abbrev tested : {A : Type 0} → Bool → Bool → ℕ → Read A → Read A
+tested c d i m = expect c 3 i >>> λ _. expect d 5 i >>> λ _. m
 
 not_not : (a : Bool) → not (not a) ≡ a
 not_not true = refl
 not_not false = refl
 
-module _ (ws : List ℕ) (vs : List Variable) (at : ℕ) (ps : List ℕ) (before : ℕ) where
-  -- all that is read of it
+-- a table, which r is the first word of
+module _ (ws : List ℕ) (vs : List Variable) (at : ℕ) (ps : List ℕ) (before : ℕ) (r : Result ℕ Fault) (er : first_said r ≡ first_word ws (2 ∷ []) 1 at) where
+  -- what comes after the tests of its fields, and after its first word
   abbrev in_order : Read Table
-  in_order = table_in_order ws vs at (is_placed ps (W.defined (word ws at))) (ltb (W.defined (word ws at)) before)
+  in_order = expect (not (ltb (W.defined (word ws at)) before)) 21 at >>> λ _. read_body ws vs (word ws at) (suc at)
 
-  next_tested : reach (next_place ws vs at ps before)
-      ≡ reach (tested (fits (2 ∷ []) (word ws at)) true (table_ok vs (word ws at)) (table_fits vs (word ws at) && not (is_placed ps (W.defined (word ws at)))) at in_order)
-  unfolding next_place
-  next_tested = table_tested ws vs at _ _
+  abbrev after : Read Table
+  after = tested (table_ok vs (word ws at)) (table_fits vs (word ws at) && not (is_placed ps (W.defined (word ws at)))) at in_order
 
-  pub table_past : length ws ≤ at → reached (Err (Kind at)) ≡ reach (next_place ws vs at ps before)
-  unfolding fits mem
-  table_past h = let e : fits (2 ∷ []) (word ws at) ≡ false = rw (kind_past ws at h) in unfit (fits (2 ∷ []) (word ws at)) true (table_ok vs (word ws at)) (table_fits vs (word ws at) && not (is_placed ps (W.defined (word ws at)))) at in_order e ∙ sym next_tested
+  table_begins : reach (first_said r >>> λ _. after) ≡ reach (next_place ws vs at ps before)
+  unfolding next_place read_table word_at
+  table_begins = ap reach (rw er (go (fits (2 ∷ []) (word ws at))) ∙ sym (word_then ws (2 ∷ []) at _))
+    where
+      go : (b : Bool)
+          → (((expect b 2 at >>> λ _. fine (word ws at)) >>> λ w. expect (ltb 0 1) 4 at >>> λ _. fine w) >>> λ _. after) ≡ (expect b 2 at >>> λ _. after)
+      go true = refl
+      go false = refl
 
-  module _ (w : ℕ) (f : Bool) (ew : w ≡ word ws at) (ef : f ≡ fits (2 ∷ []) w) where
-    fitting : (b : Bool) → f ≡ b → fits (2 ∷ []) (word ws at) ≡ b
-    fitting b e = rw (← ew, ← ef) e
+  pub table_stops : (q : Fault) → r ≡ Err q → reached (Err q) ≡ reach (next_place ws vs at ps before)
+  unfolding first_said reached reach
+  table_stops q e = let h : reached (Err q) ≡ reach (first_said r >>> λ _. after) = rw e in h ∙ table_begins
 
-    pub table_unfit : not f ≡ true → reached (Err (Kind at)) ≡ reach (next_place ws vs at ps before)
-    table_unfit e = unfit (fits (2 ∷ []) (word ws at)) true (table_ok vs (word ws at)) (table_fits vs (word ws at) && not (is_placed ps (W.defined (word ws at)))) at in_order (fitting false (not-true f e)) ∙ sym next_tested
+  module _ (w : ℕ) (e : r ≡ Ok w) where
+    begun : reach after ≡ reach (next_place ws vs at ps before)
+    unfolding first_said
+    begun = let h : reach after ≡ reach (first_said r >>> λ _. after) = rw e in h ∙ table_begins
 
-    module _ (fit : not f ≡ false) where
-      fine_word : fits (2 ∷ []) (word ws at) ≡ true
-      fine_word = fitting true (not-false f fit)
+    pub table_range : (q : Fault) → HeadingAs vs (word ws at) at (Err q) → reached (Err q) ≡ reach (next_place ws vs at ps before)
+    unfolding HeadingAs reached refusal carried reach
+    table_range q x = let h : reached (Err q) ≡ reach after = rw (x.1, x.0) in h ∙ begun
 
-      pub table_range : (q : Fault) → HeadingAs vs (word ws at) at (Err q) → reached (Err q) ≡ reach (next_place ws vs at ps before)
+    module _ (h : Heading) (eh : HeadingAs vs (word ws at) at (Ok h)) (p : ℕ) (ep : p ≡ get_or ps h.variable 0)
+        (s : Bool) (es : (x : ℕ) → HeadingOf x h → s ≡ table_fits vs x) where
+      ranged : (table_ok vs (word ws at) ≡ true) × HeadingOf (word ws at) h
       unfolding HeadingAs
-      table_range q r =
-          rw r.1 (out_of_range _ _ _ _ at in_order fine_word refl r.0 ∙ sym next_tested)
+      ranged = eh
 
-      module _ (h : Heading) (eh : HeadingAs vs (word ws at) at (Ok h)) (p : ℕ) (ep : p ≡ get_or ps h.variable 0)
-          (s : Bool) (es : (x : ℕ) → HeadingOf x h → s ≡ table_fits vs x) where
-        ranged : (table_ok vs (word ws at) ≡ true) × HeadingOf (word ws at) h
-        unfolding HeadingAs
-        ranged = eh
+      suited : (b : Bool) → (s && eqb p 0) ≡ b → (table_fits vs (word ws at) && not (is_placed ps (W.defined (word ws at)))) ≡ b
+      unfolding is_placed
+      suited b e =
+          rw (not_not (eqb (get_or ps (W.defined (word ws at)) 0) 0), ← es (word ws at) ranged.1, ← ranged.1.variable_is, ← ep) e
 
-        suited : (b : Bool) → (s && eqb p 0) ≡ b → (table_fits vs (word ws at) && not (is_placed ps (W.defined (word ws at)))) ≡ b
-        unfolding is_placed
-        suited b e =
-            rw (not_not (eqb (get_or ps (W.defined (word ws at)) 0) 0), ← es (word ws at) ranged.1, ← ranged.1.variable_is, ← ep) e
+      pub table_unsuited : not (s && eqb p 0) ≡ true → reached (Err (Fit at)) ≡ reach (next_place ws vs at ps before)
+      unfolding reached refusal carried reach
+      table_unsuited n = let h : reached (Err (Fit at)) ≡ reach after = rw (ranged.0, suited false (not-true _ n)) in h ∙ begun
 
-        pub table_unsuited : not (s && eqb p 0) ≡ true → reached (Err (Fit at)) ≡ reach (next_place ws vs at ps before)
-        table_unsuited e = unsuited _ _ _ _ at in_order fine_word refl ranged.0 (suited false (not-true _ e)) ∙ sym next_tested
+      module _ (good : not (s && eqb p 0) ≡ false) where
+        all_passed : reach in_order ≡ reach (next_place ws vs at ps before)
+        all_passed = let h : reach in_order ≡ reach after = rw (ranged.0, suited true (not-false _ good)) in h ∙ begun
 
-        module _ (good : not (s && eqb p 0) ≡ false) where
-          all_passed : reach in_order ≡ reach (next_place ws vs at ps before)
-          all_passed = passed _ _ _ _ at in_order fine_word refl ranged.0 (suited true (not-false _ good)) ∙ sym next_tested
+        pub table_lower : h.variable < before → reached (Err (Order at)) ≡ reach (next_place ws vs at ps before)
+        unfolding reached refusal carried reach
+        table_lower l =
+            let first : reached (Err (Order at)) ≡ reach in_order = rw (← ranged.1.variable_is, lt-ltb h.variable before l) in
+            first ∙ all_passed
 
-          pub table_lower : h.variable < before → reached (Err (Order at)) ≡ reach (next_place ws vs at ps before)
-          unfolding reached refusal carried reach
-          table_lower l =
-              let first : reached (Err (Order at)) ≡ reach in_order = rw (← ranged.1.variable_is, lt-ltb h.variable before l) in
-              first ∙ all_passed
+        pub table_on : (c : Result ℕ Fault) → before ≤ h.variable
+            → reached c ≡ rows_reach ws vs (table_type_number h.table_type) h.variable h.class_read Max.max_rows (at + 1)
+            → reached c ≡ reach (next_place ws vs at ps before)
+        table_on c l ec =
+            let rows : rows_reach ws vs (table_type_number h.table_type) h.variable h.class_read Max.max_rows (at + 1) ≡ reach (read_body ws vs (word ws at) (suc at))
+            = rw (ranged.1.type_is, ranged.1.variable_is, ranged.1.class_is, add-one at) (body_reach ws vs (word ws at) (suc at)) in
+            let first : reach (read_body ws vs (word ws at) (suc at)) ≡ reach in_order = rw (← ranged.1.variable_is, le-ltb h.variable before l) in
+            ec ∙ rows ∙ first ∙ all_passed
 
-          pub table_on : (r : Result ℕ Fault) → before ≤ h.variable
-              → reached r ≡ rows_reach ws vs (table_type_number h.table_type) h.variable h.class_read Max.max_rows (at + 1)
-              → reached r ≡ reach (next_place ws vs at ps before)
-          table_on r l er =
-              let rows : rows_reach ws vs (table_type_number h.table_type) h.variable h.class_read Max.max_rows (at + 1) ≡ reach (read_body ws vs (word ws at) (suc at))
-              = rw (ranged.1.type_is, ranged.1.variable_is, ranged.1.class_is, add-one at) (body_reach ws vs (word ws at) (suc at)) in
-              let first : reach (read_body ws vs (word ws at) (suc at)) ≡ reach in_order = rw (← ranged.1.variable_is, le-ltb h.variable before l) in
-              er ∙ rows ∙ first ∙ all_passed
-
-pub ruleset table_laws = (table_past, table_unfit, table_range, table_unsuited, table_lower, table_on)
+pub ruleset table_laws = (table_stops, table_range, table_unsuited, table_lower, table_on)
 
 -- ---- a table that was read is of a variable that is there
 module _ (ws : List ℕ) (vs : List Variable) (at : ℕ) (taken lower : Bool) (j : ℕ) where

@@ -1,4 +1,5 @@
 pub mod Faults
+pub mod First
 pub mod Known
 pub mod Headings
 pub mod Variables

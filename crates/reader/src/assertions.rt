@@ -7,9 +7,10 @@ ghost use Rattle.index.specs.Places.{reach};
 ghost use Rattle.reader.specs.Faults.{reached};
 
 use crate::faults::Fault;
+use crate::first::first_word;
 use crate::formulas::read_condition;
 use crate::tests::fits_kind;
-use index::{Variables, word_at};
+use index::Variables;
 use word::{AssertionType, Kind, MAX_ASSERTIONS, MAX_DEPTH, sort};
 
 // One assertion; `left` of them may still stand, this one included.
@@ -17,16 +18,7 @@ use word::{AssertionType, Kind, MAX_ASSERTIONS, MAX_DEPTH, sort};
 fn read_assertion(set: &Variables, left: usize, at: usize) -> Result<usize, Fault>
     ensures { reached result ≡ reach (R.read_assertion set.now.words.now (known set.now) left at) }
 {
-    if set.words.len() <= at {
-        return Err(Fault::Kind(at));
-    }
-    let w = word_at(set.words, at);
-    if !fits_kind(w, Kind::Assertion) {
-        return Err(Fault::Kind(at));
-    }
-    if left == 0 {
-        return Err(Fault::Limit(at));
-    }
+    let w = first_word(set.words, at, left, |w| fits_kind(w, Kind::Assertion))?;
     if AssertionType::try_from(sort(w)).is_err() {
         return Err(Fault::Range(at));
     }
@@ -39,6 +31,7 @@ pub fn read_assertions(set: &Variables, at: usize) -> Result<usize, Fault>
     ensures { reached result ≡ reach (R.read_assertions set.now.words.now (known set.now) Max.max_assertions at) }
 {
     let mut on = at;
+    // The next assertion stands where the formula ends, so the assertions are no list to go over.
     for i in 0..MAX_ASSERTIONS {
         if set.words.len() <= on {
             return Ok(on);

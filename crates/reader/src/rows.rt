@@ -7,6 +7,7 @@ ghost use Rattle.reader.specs.Faults.{reached};
 ghost use Rattle.reader.specs.Formulas.{formula_reach, row_reach, rows_reach};
 
 use crate::faults::Fault;
+use crate::first::first_word;
 use crate::formulas::{read_condition, read_event};
 use crate::headings::Heading;
 use crate::tests::{fits_kind, row_ok};
@@ -29,16 +30,7 @@ fn read_formula(set: &Variables, table_type: TableType, at: usize) -> Result<usi
 fn read_row(set: &Variables, heading: Heading, left: usize, at: usize) -> Result<usize, Fault>
     ensures { reached result ≡ row_reach set.now.words.now (known set.now) (table_type_number heading.table_type) heading.variable heading.class_read left at }
 {
-    if set.words.len() <= at {
-        return Err(Fault::Kind(at));
-    }
-    let w = word_at(set.words, at);
-    if !fits_kind(w, Kind::Row) {
-        return Err(Fault::Kind(at));
-    }
-    if left == 0 {
-        return Err(Fault::Limit(at));
-    }
+    let w = first_word(set.words, at, left, |w| fits_kind(w, Kind::Row))?;
     if !row_ok(set, heading, w) {
         return Err(Fault::Range(at));
     }
@@ -51,6 +43,7 @@ pub fn read_rows(set: &Variables, heading: Heading, at: usize) -> Result<usize, 
     ensures { reached result ≡ rows_reach set.now.words.now (known set.now) (table_type_number heading.table_type) heading.variable heading.class_read Max.max_rows at }
 {
     let mut on = at;
+    // The next row stands where the formula ends, so the rows are no list to go over.
     for i in 0..MAX_ROWS {
         on = read_row(set, heading, MAX_ROWS - i, on)?;
         if kind(word_at(set.words, on)) != Kind::Row as u32 {

@@ -6,6 +6,7 @@ ghost use Rattle.reader.specs.Faults.{reached};
 ghost use Rattle.reader.specs.Tables.{next_place, read_places};
 
 use crate::faults::Fault;
+use crate::first::first_word;
 use crate::found::Found;
 use crate::headings::{heading_fits, read_heading};
 use crate::rows::read_rows;
@@ -19,13 +20,8 @@ use word::{Kind, defined, kind};
 fn read_table(set: &Variables, at: usize, before: usize) -> Result<usize, Fault>
     ensures { reached result ≡ reach (next_place set.now.words.now (known set.now) at set.now.places.now before) }
 {
-    if set.words.len() <= at {
-        return Err(Fault::Kind(at));
-    }
-    let w = word_at(set.words, at);
-    if !fits_kind(w, Kind::Table) {
-        return Err(Fault::Kind(at));
-    }
+    // Whether one more may stand is told by what is there already (5), so that there is no limit here.
+    first_word(set.words, at, 1, |w| fits_kind(w, Kind::Table))?;
     let heading = read_heading(set, at)?;
     let free = set.place_of(heading.variable) == 0;
     if !(heading_fits(set, heading) & free) {

@@ -1,5 +1,18 @@
-use Rattle.reader.proofs.AssertionLaws.{assertion_laws}
+use Rattle.std.specs.Prelude.{[], ◌∷◌}
+use Rattle.std.proofs.Common.{refl, rules}
+use Rattle.std.proofs.lemmas.Result.{err_from_is_err_and}
+use Rattle.meaning.specs.Searches.{mem}
+use Rattle.reader.proofs.AssertionLaws.{assertion_laws, assertion_stops}
 use Rattle.reader.proofs.assertions.read_assertion.Goals as goal
 
+pub returns-in_err-w : goal.returns-in_err-w
+returns-in_err-w c =
+    let begins = c.first_word.ensures.value (10 ∷ []) (unfold mem in refl) (λ x b q. search rules) in
+    let p = err_from_is_err_and c.from_residual.result c.from_residual.ensures.1 in
+    rw (p.1, p.2) (assertion_stops _ _ _ _ _ begins _ c.in_err-w.was)
+
+pub returns-then-is_err : goal.returns-then-is_err
+returns-then-is_err c = let begins = c.first_word.ensures.value (10 ∷ []) (unfold mem in refl) (λ x b q. search rules) in search (assertion_laws, c.in_ok-w.was)
+
 pub returns : goal.returns
-returns c = search assertion_laws
+returns c = let begins = c.first_word.ensures.value (10 ∷ []) (unfold mem in refl) (λ x b q. search rules) in search (assertion_laws, c.in_ok-w.was)
