@@ -22,7 +22,8 @@ pub struct Judged {
     pub next: usize,
 }
 
-// The rows that hold: none, one with the value that it gives, or the lowest two.
+// The rows that hold: none, one with the value that it gives, or the lowest two. Three cases, so neither an Option nor a Result: whether none or two are
+// a fault is for the table to say.
 #[derive(Clone, Copy)]
 pub enum Got {
     Nothing,
@@ -53,7 +54,8 @@ fn joined(k: u32, a: bool, b: bool) -> bool
     if k == Kind::And as u32 { a & b } else { a | b }
 }
 
-// The condition at a place, at most `left` levels deep.
+// The condition at a place, at most `left` levels deep. The four parameters go on together, but as a struct they would be taken apart and put together anew
+// at every word, since `at` and `left` change with each.
 #[cycle(judge)]
 #[tactic(auto, using(crate::proofs::Laws::judge_laws))]
 pub fn judge(words: &[u32], values: &[Value], at: usize, left: usize) -> Judged
@@ -149,7 +151,9 @@ fn judge_change(words: &[u32], step: &Step, w: u32, at: usize, left: usize) -> J
     }
 }
 
-// The event at a place, in a step.
+// The event at a place, in a step. A block walks an event alike, for masks of 64 states, and the two stay apart: this one reads the words of the set, that
+// one a list of fixed length with zeros behind them; a truth is a `bool` here and 64 bits there; and a change is judged at lists of values or at planes.
+// A trait for how a word is read, what is joined, what stands for false and what a change gives, with an impl for each, would be longer than the walk.
 #[tactic(auto, using(crate::proofs::Laws::event_laws))]
 pub fn judge_event(words: &[u32], step: &Step, at: usize, left: usize) -> Judged
     ensures { result ≡ judge_event_at words.now step.now.before.now step.now.after.now left at }

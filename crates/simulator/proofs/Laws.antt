@@ -41,6 +41,8 @@ module _ (ws b : List ℕ) (w p m y mode : ℕ) (got : Got) (em : m ≡ W.class_
   unfolding condition_of
   condition_two i j e = rw e at condition_rows_lem
 
+pub ruleset condition_laws = (condition_gap, condition_one, condition_two)
+
 module _ (ws a b : List ℕ) (w p v m y mode : ℕ) (got : Got) (em : m ≡ W.class_read w) (ey : y ≡ get_or a m 0) (ex : mode ≡ y)
     (eg : got ≡ event_rows_at ws a b mode Max.max_rows 0 p Nothing) where
   event_rows_lem : event_of (get_or a v 0) got ≡ event_given ws a b w p v
@@ -58,6 +60,8 @@ module _ (ws a b : List ℕ) (w p v m y mode : ℕ) (got : Got) (em : m ≡ W.cl
   pub event_two : (i j : ℕ) → got ≡ Two i j → Err (StepOverlap i j) ≡ event_given ws a b w p v
   unfolding event_of
   event_two i j e = rw e at event_rows_lem
+
+pub ruleset event_laws = (event_none, event_one, event_two)
 
 -- ---- by the place of the first row
 in_place : (ws b : List ℕ) (x p : ℕ) → (p ≡ 0 → ⊥)
@@ -88,6 +92,8 @@ module _ (ws ps b : List ℕ) (x v p : ℕ) (ep : p ≡ get_or ps v 0) where
   unfolding given_in
   in_condition w t g np ew et e3 eg = rw (← ep, ← in_place ws b x p np, ← ew, ← et, e3, eg)
 
+pub ruleset state_laws = (in_none, in_held, in_condition)
+
 module _ (ws ps a b : List ℕ) (x v p : ℕ) (ep : p ≡ get_or ps v 0) where
   pub after_none : p ≡ 0 → Ok x ≡ given_after ws ps a b x v
   unfolding given_after given_after_by
@@ -102,6 +108,8 @@ module _ (ws ps a b : List ℕ) (x v p : ℕ) (ep : p ≡ get_or ps v 0) where
       → g ≡ event_given ws a b w p v → g ≡ given_after ws ps a b x v
   unfolding given_after
   after_event w t g np ew et n eg = rw (← ep, ← after_place ws a b x v p np, ← ew, ← et, ne_eqb t 3 n, eg)
+
+pub ruleset step_laws = (after_none, after_condition, after_event)
 
 -- ---- walking: what is left from here is the whole
 module _ (f : Values → ℕ → Given) (os b : List ℕ) (i : ℕ) (all : Walk) (inv : walk f (drop i os) b ≡ all) where

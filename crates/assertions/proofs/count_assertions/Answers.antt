@@ -1,5 +1,4 @@
-use Rattle.std.specs.Prelude.{true}
-use Rattle.std.proofs.Common.{◌∙◌, rules}
+use Rattle.std.proofs.Common.{true, ◌∙◌, rules}
 use Rattle.assertions.proofs.Laws.{row_counts}
 use Rattle.assertions.proofs.count_assertions.Goals as goal
 

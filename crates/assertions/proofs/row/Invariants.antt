@@ -1,4 +1,4 @@
-use Rattle.std.specs.Prelude.{◌≡◌, ◌+◌, ◌-◌, Bool}
+use Rattle.std.proofs.Common.{◌≡◌, ◌+◌, ◌-◌, Bool}
 use Rattle.assertions.specs.Assertions.{row_from}
 use Rattle.assertions.proofs.row.Given as goal
 

@@ -1,4 +1,4 @@
-use Prim.Native.Nat.{◌+◌, ◌*◌}
+use Rattle.std.proofs.Common.{◌+◌, ◌*◌}
 use Rattle.judge.proofs.+judge.Given as goal
 
 abbrev pub decreases-judge : goal.decreases-judge

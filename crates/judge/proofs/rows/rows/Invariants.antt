@@ -1,4 +1,4 @@
-use Rattle.std.specs.Prelude.{◌≡◌, ◌-◌}
+use Rattle.std.proofs.Common.{◌≡◌, ◌-◌}
 use Rattle.word.specs.Limits as Max
 use Rattle.judge.specs.declared.Got.TheVariants.{Nothing}
 use Rattle.judge.specs.Judge.{rows_at}
