@@ -1,5 +1,5 @@
 -- Laws of the input's words: a word by the bytes from its place on, and all of them in turn.
-use Rattle.std.specs.Prelude.{ℕ, ◌+◌, ◌*◌, ◌/◌, ◌<◌, ◌≤◌, ◌≡◌, min, List, [], ◌∷◌, ◌++◌, length, get_or, take, drop}
+use Rattle.std.specs.Prelude.{ℕ, ◌+◌, ◌*◌, ◌/◌, ◌<◌, ◌≤◌, ◌≡◌, min, List, [], ◌∷◌, ◌++◌, length, take, drop}
 use Rattle.std.specs.Int.{w32, from_le_bytes}
 use Rattle.std.proofs.Common.{arith, sym, ap, ◌∙◌, append-nil, length-append, get_or-take}
 use Rattle.std.proofs.Math.Decide.{dec_le, dec_lt}

@@ -1,34 +1,24 @@
 // Bytes to words, four bytes a word, lowest first.
-ghost use Rattle.std.specs.Prelude.{◌≡◌, ◌&&◌, ℕ, ◌+◌, ◌*◌, ◌%◌, ◌<◌, ◌≤◌, eqb, leb, length, take};
-ghost use Rattle.meaning.specs.Host.{word_of_bytes, words_of_bytes};
-ghost use Rattle.scrhost.specs.Limits.{max_bytes};
+ghost use Rattle.std.specs.Prelude.{◌≡◌, IfSome, IfNone};
+ghost use Rattle.meaning.specs.Answers.{ok};
+ghost use Rattle.meaning.specs.Host.{host_words};
+ghost use Rattle.scrhost.specs.Limits.{Refused};
 
-use word::{MAX_WORDS, of_bytes};
+use arrayvec::ArrayVec;
+use word::MAX_WORDS;
 
-// Four bytes for each word of a set.
-const MAX_BYTES: usize = MAX_WORDS * 4;
-
-// So many bytes are whole words, and no more than there is room for.
-pub fn fits(bytes: usize) -> bool
-    ensures { result ≡ (eqb (bytes % 4) 0 && leb bytes max_bytes) }
+// The words of the bytes; none of bytes that are no whole words, or more words than a set has.
+pub fn words_of(bytes: &[u8]) -> Option<ArrayVec<u32, MAX_WORDS>>
+    ensures words_value { IfSome result (λ words. host_words bytes.now ≡ ok words.items) }
+    ensures refused { IfNone result (Refused bytes.now) }
 {
-    (bytes % 4 == 0) & (bytes <= MAX_BYTES)
-}
-
-// The word of the four bytes from a place on.
-fn word_of_bytes(bytes: &[u8], at: usize) -> u32
-    requires { at + 4 ≤ length bytes.now }
-    ensures { result ≡ word_of_bytes bytes.now at }
-{
-    of_bytes(bytes[at], bytes[at + 1], bytes[at + 2], bytes[at + 3])
-}
-
-// The first n words of the bytes, to the front of the words set aside.
-pub fn copy_words(bytes: &[u8], words: &mut [u32], n: usize)
-    requires { (n ≤ length words.old) × (n * 4 ≤ length bytes.now) }
-    ensures { take n words.new ≡ words_of_bytes bytes.now n 0 }
-{
-    for i in 0..n {
-        words[i] = word_of_bytes(bytes, i * 4);
+    let (fours, rest) = bytes.as_chunks::<4>();
+    if !rest.is_empty() || MAX_WORDS < fours.len() {
+        return None;
     }
+    let mut words = ArrayVec::new();
+    for four in fours {
+        words.push(u32::from_le_bytes(*four));
+    }
+    Some(words)
 }

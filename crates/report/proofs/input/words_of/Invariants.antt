@@ -1,4 +1,4 @@
-use Rattle.std.proofs.Common.{◌≡◌, ℕ, ◌+◌, ◌*◌, ◌≤◌, length, drop}
+use Rattle.std.proofs.Common.{◌≡◌, ◌+◌, ◌*◌, ◌≤◌, length, drop}
 use Rattle.std.specs.Iterator.Adapters.{take_source, take_count}
 use Rattle.std.specs.Slice.Iter.{chunks_rest, chunks_size}
 use Rattle.meaning.specs.Searches.{list_of}

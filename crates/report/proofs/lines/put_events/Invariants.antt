@@ -1,4 +1,4 @@
-use Rattle.std.proofs.Common.{◌≡◌, ◌++◌, ℕ, ◌+◌, ◌*◌, ◌≤◌, length, drop}
+use Rattle.std.proofs.Common.{◌≡◌, ◌++◌, ◌+◌, ◌*◌, ◌≤◌, length, drop}
 use Rattle.word.specs.Limits as Max
 use Rattle.meaning.specs.Program.{event_lines}
 use Rattle.report.specs.Room as Room

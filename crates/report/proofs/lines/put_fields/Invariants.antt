@@ -1,4 +1,4 @@
-use Rattle.std.proofs.Common.{◌≡◌, ◌++◌, ℕ, ◌+◌, ◌*◌, ◌≤◌, length, drop}
+use Rattle.std.proofs.Common.{◌≡◌, ◌++◌, ◌+◌, ◌*◌, ◌≤◌, length, drop}
 use Rattle.meaning.specs.Program.{fields}
 use Rattle.report.specs.Room as Room
 use Rattle.report.proofs.lines.put_fields.Given as goal
