@@ -1,7 +1,7 @@
 -- Laws of read_condition, read_change and read_event, one for each way out.
 use Rattle.std.specs.Prelude.{◌≡◌, refl, Bool, true, false, not, List, ℕ, zero, suc, ◌+◌, ◌-◌, ◌≤◌, length, Result, Ok, Err, is_ok}
 use Rattle.std.proofs.Common.{sym, ap, ◌∙◌, sub-one, add-one, ne_eqb}
-use borrow.Author.Tests.{not-true, not-false}
+use Rattle.std.proofs.lemmas.Bool.{not-true, not-false}
 use Rattle.word.specs.Fields as W
 use Rattle.word.specs.Kinds.{IsChange}
 use Rattle.word.specs.declared.kinds.Change.{Change}
