@@ -1,9 +1,9 @@
 -- The mask of a list of variables has a bit for each of them.
 use Rattle.std.specs.Prelude.{ℕ, ◌<◌, ◌≡◌, ◌||◌, List, [], ◌∷◌, eqb, bit_or}
 use Rattle.std.proofs.Common.{sym}
-use mathlib.Core.Bool.{or-false, or_assoc}
-use native.Mathlib.Decide.{ℕ_discrete}
-use borrow.Author.Tests.{eq-eqb, ne_eqb}
+use Rattle.std.proofs.Math.Bool.{or-false, or_assoc}
+use Rattle.std.proofs.Math.Decide.{ℕ_discrete}
+use Rattle.std.proofs.lemmas.Bool.{eq-eqb, ne_eqb}
 use Rattle.word.specs.Limits as Max
 use Rattle.meaning.specs.Searches.{mem}
 use Rattle.index.specs.Bits.{bit_in, one_bit}

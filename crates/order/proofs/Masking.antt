@@ -2,8 +2,8 @@
 -- What was scanned agrees with what was read, by the clauses of the reader; where reading stops nothing is said.
 use Rattle.std.specs.Prelude.{ℕ, zero, suc, ◌<◌, ◌≡◌, refl, Bool, true, false, ◌||◌, List, [], ◌∷◌, eqb, leb, ltb, bit_or, length, get_or}
 use Rattle.std.proofs.Common.{sym, ◌∙◌, subst, arith}
-use mathlib.Core.Bool.{or-false, or_assoc}
-use borrow.Author.Tests.{ne_eqb}
+use Rattle.std.proofs.Math.Bool.{or-false, or_assoc}
+use Rattle.std.proofs.lemmas.Bool.{ne_eqb}
 use Rattle.word.specs.Fields as W
 use Rattle.word.specs.Limits as Max
 use Rattle.meaning.specs.Answers.{fine, stop, ◌>>>◌, expect, if◌give◌else◌}

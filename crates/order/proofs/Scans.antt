@@ -1,7 +1,7 @@
 -- Laws of the scans for masks, one for each way out of a function.
 use Rattle.std.specs.Prelude.{ℕ, zero, suc, ◌+◌, ◌-◌, ◌≤◌, ◌<◌, ◌≡◌, refl, true, false, List, [], ◌∷◌, eqb, leb, bit_or, length, get_or, set, take}
 use Rattle.std.proofs.Common.{sym, ◌∙◌, arith, sub-one, add-one, take_all, take-suc-set}
-use borrow.Author.Tests.{ne_eqb, eq-eqb, le-leb, lt-leb}
+use Rattle.std.proofs.lemmas.Bool.{ne_eqb, eq-eqb, le-leb, lt-leb}
 use Rattle.word.specs.Fields as W
 use Rattle.word.specs.Limits as Max
 use Rattle.meaning.specs.Answers.{if◌give◌else◌}

@@ -3,11 +3,11 @@ use Rattle.std.specs.Prelude as R
 use Rattle.std.specs.Int.Bits.{bit_or}
 use Rattle.std.proofs.Common.{refl, sym, ap, ◌∙◌, arith, add-one}
 use Rattle.std.proofs.Math.Option.{Option, none, some}
-use native.Mathlib.Nat.{sub-zero}
-use lib.ListN.{length-take}
+use Rattle.std.proofs.Math.Nat.{sub-zero}
+use Rattle.std.proofs.Common.{length-take}
 use Rattle.std.proofs.lemmas.List.{set-get_or, take-append-le}
-use lib.Seq.{take-suc-set}
-use borrow.Author.Tests.{eq-eqb, ne_eqb}
+use Rattle.std.proofs.Common.{take-suc-set}
+use Rattle.std.proofs.lemmas.Bool.{eq-eqb, ne_eqb}
 use Rattle.word.specs.Limits as Max
 use Rattle.meaning.specs.Searches.{least, or_else, iterate}
 use Rattle.meaning.specs.Order.{taking}

@@ -1,7 +1,7 @@
--- Laws of the word that a row, an assertion or a formula begins with: of the tests, and of what comes after them.
+-- Laws of the word that a table, a row or an assertion begins with: of the tests, and of what comes after them.
 use Rattle.std.specs.Prelude.{◌≡◌, refl, Bool, true, false, not, List, ℕ, ◌≤◌, ltb, length, Ok, Err}
 use Rattle.std.proofs.Common.{arith, lt-ltb}
-use borrow.Author.Tests.{not-true, not-false}
+use Rattle.std.proofs.lemmas.Bool.{not-true, not-false}
 use Rattle.meaning.specs.Answers.{Parse, fine, stop, ◌>>>◌, expect}
 use Rattle.meaning.specs.Searches.{mem}
 use Rattle.meaning.specs.Reading.{word, fits, word_at}

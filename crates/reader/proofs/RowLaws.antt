@@ -1,7 +1,7 @@
 -- Laws of read_formula, read_row and read_rows, one for each way out.
 use Rattle.std.specs.Prelude.{◌≡◌, refl, Bool, true, false, not, List, [], ◌∷◌, ℕ, suc, ◌+◌, ◌-◌, ◌≤◌, ◌<◌, eqb, Result, Ok, Err, ◌⊎◌}
 use Rattle.std.proofs.Common.{inl, inr, sym, ap, ◌∙◌, arith, add-one, ne_eqb}
-use borrow.Author.Tests.{not-true, not-false}
+use Rattle.std.proofs.lemmas.Bool.{not-true, not-false}
 use Rattle.word.specs.Fields as W
 use Rattle.word.specs.Kinds.{table_type_number}
 use Rattle.word.specs.declared.kinds.TableType.{TableType}

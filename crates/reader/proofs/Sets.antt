@@ -5,7 +5,7 @@ use Rattle.word.specs.Limits as Max
 use Rattle.meaning.specs.Answers.{Outcome, ok, refuse, ◌>>=◌, demand}
 use Rattle.meaning.specs.Searches.{every}
 use Rattle.meaning.specs.Syntax.{TableSet}
-use Rattle.meaning.specs.Lookup.{count, is_monitored, source}
+use Rattle.meaning.specs.Lookup.{is_monitored, source}
 use Rattle.meaning.specs.Reading.{variable_of}
 use Rattle.meaning.specs.States.{is_held, state_count, tabled, starts_at_zero, few_states, read_typed}
 use Rattle.index.specs.Places.{place_count, variables_to}
@@ -15,7 +15,7 @@ use Rattle.reader.specs.declared.Sections.{Sections}
 use Rattle.reader.specs.declared.counts.Counted.{Counted}
 use Rattle.reader.specs.declared.faults.Fault.{Fault}
 use Rattle.reader.specs.Counts.{is_tabled, tabled_at, is_zero_at_first, starts_at_zero_at, few_states_at, typed_at, WeightsTo, CountedAs}
-use Rattle.reader.specs.Typed.{ReadAs, TypedSet, TypedAs}
+use Rattle.reader.specs.Typed.{ReadAs, TypedAs}
 use Rattle.reader.proofs.Places.{places_have}
 
 -- ---- a search goes by what it is given
@@ -55,10 +55,6 @@ module _ {ws : List ℕ} {z : TableSet} {n a : ℕ} {ps : List ℕ} (ix : Indexe
       assoc (ok u) (ok t) w = refl
       assoc (ok u) (refuse k xs) w = refl
       assoc (refuse k xs) y w = refl
-
--- the number of variables
-pub typed_count : {ws : List ℕ} {z : TableSet} {n a c : ℕ} {ps us : List ℕ} → TypedSet ws z n a c ps us → count z ≡ n
-typed_count t = count_is t.indexed
 
 -- ---- read_typed
 module _ (ws : List ℕ) (r : Result Sections Fault) (h : ReadAs ws r) where

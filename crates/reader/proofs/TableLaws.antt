@@ -1,7 +1,7 @@
 -- Laws of read_table and read_tables, one for each way out.
 use Rattle.std.specs.Prelude.{◌≡◌, refl, Bool, true, false, not, ◌&&◌, List, [], ◌∷◌, ℕ, zero, suc, ◌+◌, ◌-◌, ◌≤◌, ◌<◌, eqb, ltb, length, get_or, set, Result, Ok, Err}
 use Rattle.std.proofs.Common.{sym, ap, ◌∙◌, arith, add-one, ne_eqb, eq-eqb, lt-ltb, le-ltb}
-use borrow.Author.Tests.{not-true, not-false}
+use Rattle.std.proofs.lemmas.Bool.{not-true, not-false}
 use Rattle.word.specs.Fields as W
 use Rattle.word.specs.Kinds.{table_type_number}
 use Rattle.word.specs.Limits as Max

@@ -1,5 +1,5 @@
 -- Laws of the tests of one word: what the code works out from a word's fields is what the meaning asks of the word.
-use mathlib.Core.Bool.{or-false}
+use Rattle.std.proofs.Math.Bool.{or-false}
 use Rattle.std.specs.Prelude.{◌≡◌, refl, Bool, true, false, not, ◌&&◌, ◌||◌, List, [], ◌∷◌, ℕ, ◌≤◌, eqb, leb, ltb, length, Result, Ok, Err, is_ok, ◌⊎◌}
 use Rattle.std.proofs.Common.{◌∙◌, inl, inr}
 use Rattle.word.specs.Fields as W

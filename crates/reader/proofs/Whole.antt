@@ -1,7 +1,7 @@
 -- Laws of read_words, one for each way out.
 use Rattle.std.specs.Prelude.{◌≡◌, refl, true, List, [], ℕ, ◌≤◌, ◌<◌, length, Result, Ok, Err}
 use Rattle.std.proofs.Common.{sym, ap, subst, ◌∙◌, arith, le-leb}
-use borrow.Author.Tests.{lt-leb}
+use Rattle.std.proofs.lemmas.Bool.{lt-leb}
 use Rattle.word.specs.Limits as Max
 use Rattle.meaning.specs.Answers.{ok, fine, stop, parsed}
 use Rattle.meaning.specs.Searches.{within}
