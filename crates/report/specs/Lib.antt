@@ -1,5 +1,4 @@
 pub mod Room
 pub mod Lines
 pub mod Runs
-pub mod Whole
 pub mod Beyond

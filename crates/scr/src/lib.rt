@@ -113,7 +113,8 @@ pub fn start(words: &[u32]) -> Result<u32, Refusal>
 }
 
 // The word that a set may be loaded. Every typed state, every typed step and every assertion counts; which steps are looked at singly is the
-// filter's matter (crate filter).
+// filter's matter (crate filter). Not inlined, so that what it keeps on the stack is free again for what a caller does with the verdict.
+#[inline(never)]
 pub fn check(words: &[u32]) -> Result<Counts, Refusal>
     ensures result_value { verdict_says result ≡ check_of words.now }
     ensures answers_or_refuses { AnswersOrRefuses (verdict_says result) check_numbers (Refused words.now) }

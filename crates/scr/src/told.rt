@@ -8,7 +8,8 @@ use std::fmt;
 // No refusal carries more.
 pub const MAX_CARRIED: usize = 6;
 
-// The number of a refusal, and what it carries: the first `count` of `carried`, which has room for as many as any refusal carries.
+// The number of a refusal, and what it carries: the first `count` of `carried`, which has room for as many as any refusal carries. There is no heap, and it is
+// copied, which a vector with room of its own can't be: so the count stands beside the list.
 #[derive(Clone, Copy)]
 pub struct Told {
     pub number: u32,

@@ -1,10 +1,13 @@
 -- Laws of bytes taken as words, four after four.
-use Rattle.std.specs.Prelude.{ℕ, zero, suc, ◌+◌, ◌-◌, ◌*◌, ◌<◌, ◌≤◌, ◌≡◌, List, [], ◌∷◌, ◌++◌, length, get_or, take, drop}
+use Rattle.std.specs.Prelude.{ℕ, zero, suc, ◌+◌, ◌-◌, ◌*◌, ◌<◌, ◌≤◌, ◌≡◌, List, ◌∷◌, ◌++◌, length, get_or, take, drop}
 use Rattle.std.specs.Int.{w32, from_le_bytes}
 use Rattle.std.specs.Simd.{first_chunks}
 use Rattle.std.proofs.Common.{arith, refl, sym, ap, ◌∙◌, append_assoc, append-nil, get_or-take}
 use Rattle.std.proofs.lemmas.List.{get_or-drop, drop-drop}
 use native.Mathlib.Nat.{add-zero}
+use native.Mathlib.Numerals.{add-one}
+use lib.ListN.{set}
+use lib.Seq.{take-suc-set}
 use Rattle.meaning.specs.Host.{word_of_bytes, words_of_bytes}
 use Rattle.theory.specs.Loops.{left}
 
@@ -44,15 +47,16 @@ words_on : (bs : List ℕ) (n i : ℕ) → i < n → words_of_bytes bs (n - i) i
 unfolding words_of_bytes
 words_on bs n i h = rw (left n i h)
 
-module _ (bs words all : List ℕ) (n i : ℕ) (e : words ++ words_of_bytes bs (n - i) i ≡ all) where
-  pub copied : (fours : List (List ℕ)) (after d : List ℕ) (r : ℕ) → fours ≡ first_chunks 4 n bs → i < n → r ≡ from_le_bytes w32 (get_or fours i d) → after ≡ words ++ r ∷ []
-      → after ++ words_of_bytes bs (n - (i + 1)) (i + 1) ≡ all
-  copied fours after d r ef h er ea =
+module _ (bs room all : List ℕ) (n i : ℕ) (e : take i room ++ words_of_bytes bs (n - i) i ≡ all) where
+  pub copied : (fours : List (List ℕ)) (d : List ℕ) (r : ℕ) → fours ≡ first_chunks 4 n bs → i < n → i < length room → r ≡ from_le_bytes w32 (get_or fours i d)
+      → take (i + 1) (set room i r) ++ words_of_bytes bs (n - (i + 1)) (i + 1) ≡ all
+  copied fours d r ef h within er =
       let w = word_at bs (get_or fours i d) (i * 4) r (rw ef (four_at n i bs d h)) er in
-      rw (ea, w, append_assoc, ← words_on bs n i h) e
+      rw (add-one i, take-suc-set room i r within, w, append_assoc, ← add-one i, ← words_on bs n i h) e
 
-  pub copied_all : n ≤ i → words ≡ all
+  pub copied_all : i ≤ n → n ≤ i → take n room ≡ all
   unfolding words_of_bytes
-  copied_all h =
+  copied_all k h =
       let z : n - i ≡ 0 = omega arith in
-      sym (append-nil words) ∙ (rw z at e)
+      let q : i ≡ n = omega arith in
+      sym (append-nil (take n room)) ∙ (rw (z, q) at e)

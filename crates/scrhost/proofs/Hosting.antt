@@ -85,11 +85,11 @@ module _ (bs : List ℕ) where
   unfolding host_step_of stepped step_of
   step_refused s w r = unread _ stepped 2147483649 (λ xs. refl) r
 
-  module _ (words ws : List ℕ) (r : ℕ) (e : host_words bs ≡ ok words) (same : ws ≡ words) where
+  module _ (ws : List ℕ) (r : ℕ) (e : host_words bs ≡ ok ws) where
     pub check_words : (v : Verdict) → verdict_says v ≡ check_of ws → r ≡ passed (verdict_says v) → r ≡ host_check_of bs
     unfolding host_check_of
-    check_words v ev er = rw (e, ← same, ← ev) er
+    check_words v ev er = rw (e, ← ev) er
 
     pub step_words : (s w : ℕ) (a : Answer) → answer_says a ≡ step_of ws s w → r ≡ stepped (answer_says a) → r ≡ host_step_of bs s w
     unfolding host_step_of
-    step_words s w a ea er = rw (e, ← same, ← ea) er
+    step_words s w a ea er = rw (e, ← ea) er

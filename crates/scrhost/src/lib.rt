@@ -9,6 +9,7 @@ ghost use Rattle.meaning.specs.Host.{host_check_of, host_step_of};
 
 use numbers::{LENGTH, REFUSED, check_number, step_number};
 use scr::{check, step};
+use word::MAX_WORDS;
 use words::words_of;
 
 // 0, or the number of the refusal.
@@ -16,8 +17,8 @@ use words::words_of;
 pub fn scr_check(bytes: &[u8]) -> u32
     ensures { result ≡ host_check_of bytes.now }
 {
-    match words_of(bytes) {
-        Some(words) => check_number(check(&words)),
+    match words_of(bytes, &mut [0; MAX_WORDS]) {
+        Some(words) => check_number(check(words)),
         None => LENGTH,
     }
 }
@@ -27,8 +28,8 @@ pub fn scr_check(bytes: &[u8]) -> u32
 pub fn scr_step(bytes: &[u8], state: u32, event: u32) -> u32
     ensures { result ≡ host_step_of bytes.now state event }
 {
-    match words_of(bytes) {
-        Some(words) => step_number(step(&words, state, event)),
+    match words_of(bytes, &mut [0; MAX_WORDS]) {
+        Some(words) => step_number(step(words, state, event)),
         None => REFUSED + LENGTH,
     }
 }

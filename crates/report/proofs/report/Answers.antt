@@ -1,8 +1,8 @@
-use Rattle.std.proofs.Common.{rules}
-use Rattle.report.proofs.Reporting.{all_put, shown}
+use Rattle.report.proofs.Reporting.{whole}
 use Rattle.report.proofs.report.Goals as goal
 
 pub returns-clause-out_after : goal.returns-clause-out_after
-returns-clause-out_after c =
-    let e = all_put _ _ _ _ _ c.words_of.ensures c.deref.ensures.0 c.new-text.ensures c.put_words.ensures in
-    shown _ _ _ _ _ e c.len.ensures.value (search rules) (search rules)
+returns-clause-out_after c = rw (whole _ _ _ _ _ _ _ c.words_of-words.ensures c.deref-2.ensures.0 c.deref.ensures.0 c.first_event.ensures.value c.split_at.ensures.front c.split_at.ensures.back) at c.write.ensures.out_after
+
+pub returns-clause-value : goal.returns-clause-value
+returns-clause-value c = rw (whole _ _ _ _ _ _ _ c.words_of-words.ensures c.deref-2.ensures.0 c.deref.ensures.0 c.first_event.ensures.value c.split_at.ensures.front c.split_at.ensures.back) at c.write.ensures.value

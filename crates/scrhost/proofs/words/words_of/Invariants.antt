@@ -1,9 +1,10 @@
-use Rattle.std.proofs.Common.{◌≡◌, ◌-◌, ◌/◌, ◌≤◌, ◌++◌, length}
+use Rattle.std.proofs.Common.{◌≡◌, ◌-◌, ◌/◌, ◌≤◌, ◌++◌, length, take}
+use Rattle.word.specs.Limits as Max
 use Rattle.meaning.specs.Host.{words_of_bytes}
 use Rattle.scrhost.proofs.words.words_of.Given as goal
 
-abbrev pub invariant-loop-four : goal.invariant-loop-four
-invariant-loop-four l =
-    (l.four-index ≤ length l.bytes / 4)
-    × (length l.words.items ≡ l.four-index)
-    × (l.words.items ++ words_of_bytes l.bytes (length l.bytes / 4 - l.four-index) l.four-index ≡ words_of_bytes l.bytes (length l.bytes / 4) 0)
+abbrev pub invariant-loop-i : goal.invariant-loop-i
+invariant-loop-i l =
+    (l.i ≤ length l.bytes / 4)
+    × (length l.room ≡ Max.max_words)
+    × (take l.i l.room ++ words_of_bytes l.bytes (length l.bytes / 4 - l.i) l.i ≡ words_of_bytes l.bytes (length l.bytes / 4) 0)
