@@ -1,10 +1,9 @@
 -- Laws of decimal numbers: the library's digits are the meaning's, and how many there are.
 use Rattle.std.specs.Prelude.{ℕ, zero, suc, ◌/◌, ◌^◌, ◌<◌, ◌≤◌, ◌≡◌, List, ◌++◌, length}
 use Rattle.std.specs.Fmt as S
-use Rattle.std.proofs.Common.{arith, ap, ◌∙◌, length-append}
+use Rattle.std.proofs.Common.{arith, ap, ◌∙◌, length-append, le-ltb, lt-ltb}
 use Rattle.std.proofs.Math.Decide.{dec_lt}
 use Rattle.std.proofs.lemmas.Fmt.{decimal_digit, decimal_step}
-use borrow.Author.Tests.{le-ltb, lt-ltb}
 use Rattle.meaning.specs.Program.{digits_of, decimal}
 
 digits_are : (k n : ℕ) → n < 10 ^ suc k → n < 2 ^ 64 → S.decimal n ≡ digits_of (suc k) n

@@ -1,9 +1,6 @@
 -- Laws of lines at the end of a text, one for each way out.
 use Rattle.std.specs.Prelude.{ℕ, ◌+◌, ◌^◌, ◌<◌, ◌≤◌, ◌≡◌, List, [], ◌∷◌, ◌++◌, length, get_or, take, drop}
-use Rattle.std.proofs.Common.{arith, sym, ap, ◌∙◌, append_assoc, append-nil, length-append}
-use native.Mathlib.Numerals.{add-one}
-use lib.ListN.{drop_of_length-le}
-use lib.Seq.{drop-cons}
+use Rattle.std.proofs.Common.{arith, sym, ap, ◌∙◌, append_assoc, append-nil, length-append, add-one, drop_of_length-le, drop-cons}
 use Rattle.word.specs.Fields as W
 use Rattle.word.specs.Limits as Max
 use Rattle.meaning.specs.Reading.{word}

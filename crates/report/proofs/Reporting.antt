@@ -1,8 +1,7 @@
 -- Laws of the whole output, one for each way out.
 use Rattle.std.specs.Prelude.{ℕ, ◌+◌, ◌≤◌, ◌≡◌, List, [], ◌++◌, length, take, drop, Ok, Err}
-use Rattle.std.proofs.Common.{arith, sym, append_assoc}
+use Rattle.std.proofs.Common.{arith, sym, append_assoc, zero-add}
 use Rattle.std.proofs.lemmas.List.Edits.{sets, sets-eq}
-use native.Mathlib.Nat.{zero-add}
 use Rattle.meaning.specs.Calls.{start_of}
 use Rattle.meaning.specs.Check.{check_of}
 use Rattle.meaning.specs.Program.{input_words, first_event, pass_line, refuse_line, run_from_start, printed, program_of}

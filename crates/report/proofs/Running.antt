@@ -1,9 +1,8 @@
 -- Laws of the lines of a run, one for each way out.
 use Rattle.std.specs.Prelude.{ℕ, ◌≤◌, ◌≡◌, min, List, ◌++◌, length, take, Ok, Err}
-use Rattle.std.proofs.Common.{refl, sym, ap, ◌∙◌, arith, append_assoc, append-nil}
+use Rattle.std.proofs.Common.{refl, sym, ap, ◌∙◌, arith, append_assoc, append-nil, take_all, replicate}
 use Rattle.std.proofs.Math.Decide.{dec_le}
-use lib.Seq.{take_all}
-use lib.ListN.{replicate, length-replicate}
+use lib.ListN.{length-replicate}
 use Rattle.word.specs.Limits as Max
 use Rattle.meaning.specs.Answers.{ok}
 use Rattle.meaning.specs.Calls.{start_of}

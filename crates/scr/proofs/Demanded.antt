@@ -1,9 +1,5 @@
 -- The demands of each entry, from its equations: demand 1 of all, 2 of check and step, 3 of run.
-use mathlib.Core.Path.{◌≡◌, refl, sym, ◌∙◌}
-use mathlib.Core.Logic.{inl, inr}
-use mathlib.Core.List.{List}
-use Prim.Native.Nat.{ℕ}
-use lib.ListN.{length}
+use Rattle.std.proofs.Common.{◌≡◌, refl, sym, ◌∙◌, inl, inr, List, ℕ, length}
 use Rattle.meaning.specs.Answers.{Outcome, ok, refuse, start_numbers, check_numbers, step_numbers, values_numbers}
 use Rattle.meaning.specs.States.{Values}
 use Rattle.meaning.specs.Steps.{step_of}

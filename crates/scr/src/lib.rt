@@ -101,6 +101,7 @@ pub struct Counts {
 }
 
 // ---- entries
+// All begin with the reading and hand the index on. They are alike no further, step and values too: each has a promise of its own.
 
 // The initial state, which holds the initial values, or the first of refusals 1 to 9.
 pub fn start(words: &[u32]) -> Result<u32, Refusal>

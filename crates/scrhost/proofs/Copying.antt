@@ -2,12 +2,8 @@
 use Rattle.std.specs.Prelude.{ℕ, zero, suc, ◌+◌, ◌-◌, ◌*◌, ◌<◌, ◌≤◌, ◌≡◌, List, ◌∷◌, ◌++◌, length, get_or, take, drop}
 use Rattle.std.specs.Int.{w32, from_le_bytes}
 use Rattle.std.specs.Simd.{first_chunks}
-use Rattle.std.proofs.Common.{arith, refl, sym, ap, ◌∙◌, append_assoc, append-nil, get_or-take}
+use Rattle.std.proofs.Common.{arith, refl, sym, ap, ◌∙◌, append_assoc, append-nil, get_or-take, add-zero, add-one, set, take-suc-set}
 use Rattle.std.proofs.lemmas.List.{get_or-drop, drop-drop}
-use native.Mathlib.Nat.{add-zero}
-use native.Mathlib.Numerals.{add-one}
-use lib.ListN.{set}
-use lib.Seq.{take-suc-set}
 use Rattle.meaning.specs.Host.{word_of_bytes, words_of_bytes}
 use Rattle.theory.specs.Loops.{left}
 
