@@ -5,6 +5,7 @@ use Rattle.std.proofs.Math.Decide.{dec_lt, ℕ_discrete}
 use Rattle.std.proofs.Math.Nat.{div-eq_of_lt}
 use Rattle.std.proofs.Math.Pow.{pow-lt}
 use Rattle.std.proofs.lemmas.Nat.{and_mask, or_shr, shl-shr}
+-- std does not pass these on
 use lib.Bits.{or_step, shifted_even}
 use Rattle.word.specs.Limits as Max
 use Rattle.index.specs.Bits.{bit_in, one_bit}

@@ -1,4 +1,4 @@
--- Laws of the word that a table, a row or an assertion begins with: of the tests, and of what comes after them.
+-- Laws of the word that a table, a row, an assertion or a formula begins with: of the tests, and of what comes after them.
 use Rattle.std.specs.Prelude.{◌≡◌, refl, Bool, true, false, not, List, ℕ, ◌≤◌, ltb, length, Ok, Err}
 use Rattle.std.proofs.Common.{arith, lt-ltb}
 use Rattle.std.proofs.lemmas.Bool.{not-true, not-false}

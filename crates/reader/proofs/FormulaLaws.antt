@@ -1,53 +1,49 @@
 -- Laws of read_condition, read_change and read_event, one for each way out.
-use Rattle.std.specs.Prelude.{◌≡◌, refl, Bool, true, false, not, List, ℕ, zero, suc, ◌+◌, ◌-◌, ◌≤◌, length, Result, Ok, Err, is_ok}
-use Rattle.std.proofs.Common.{sym, ap, ◌∙◌, sub-one, add-one, ne_eqb}
-use Rattle.std.proofs.lemmas.Bool.{not-true, not-false}
+use Rattle.std.specs.Prelude.{◌≡◌, refl, Bool, true, false, not, List, ℕ, zero, suc, ◌+◌, ◌-◌, ◌≤◌, ltb, Result, Ok, Err, is_ok}
+use Rattle.std.proofs.Common.{sym, ap, ◌∙◌, arith, sub-one, add-one, ne_eqb, lt-ltb}
 use Rattle.word.specs.Fields as W
 use Rattle.word.specs.Kinds.{IsChange}
 use Rattle.word.specs.declared.kinds.Change.{Change}
 use Rattle.word.specs.declared.kinds.Unnamed.{Unnamed}
-use Rattle.meaning.specs.Searches.{mem, within}
+use Rattle.meaning.specs.Answers.{◌>>>◌, expect}
+use Rattle.meaning.specs.Searches.{within}
 use Rattle.meaning.specs.Syntax.{Variable}
-use Rattle.meaning.specs.Reading.{word, fits, test_ok, condition_kinds, event_kinds, condition_by, event_by, word_at, read_condition, read_event}
+use Rattle.meaning.specs.Reading.{test_ok, condition_kinds, event_kinds, condition_by, event_by, word_at, read_condition, read_event}
 use Rattle.index.specs.Places.{Refused, Reached, reach, then_at}
 use Rattle.reader.specs.declared.faults.Fault.{Fault}
-use Rattle.reader.specs.declared.faults.Fault.TheVariants.{Kind, Range, Limit}
+use Rattle.reader.specs.declared.faults.Fault.TheVariants.{Range}
 use Rattle.reader.specs.Faults.{refusal, carried, reached}
 use Rattle.reader.specs.Formulas.{change_reach}
-use Rattle.reader.proofs.TestLaws.{kind_past}
+use Rattle.reader.specs.First.{first_word, first_said}
+use Rattle.reader.proofs.FirstLaws.{first_then}
 use Rattle.reader.proofs.Answers.{made_reach, two_reach, then_next, then_stop}
 
 -- ---- conditions
-condition_unfit : (ws : List ℕ) (vs : List Variable) (n at : ℕ) → fits condition_kinds (word ws at) ≡ false
-    → Refused 2 at ≡ reach (read_condition ws vs n at)
-unfolding read_condition reach word_at
-condition_unfit ws vs zero at e = rw e
-condition_unfit ws vs (suc n) at e = rw e
+condition_unroll : (ws : List ℕ) (vs : List Variable) (n at : ℕ)
+    → (word_at ws condition_kinds at >>> λ w. expect (ltb 0 n) 4 at >>> λ _. condition_by vs (read_condition ws vs (n - 1)) w at) ≡ read_condition ws vs n at
+unfolding read_condition
+condition_unroll ws vs zero at = refl
+condition_unroll ws vs (suc n) at = rw (lt-ltb 0 (suc n) (omega arith), sub-one (suc n))
 
-condition_unroll : (ws : List ℕ) (vs : List Variable) (n at : ℕ) → fits condition_kinds (word ws at) ≡ true → (n ≡ 0 → ⊥)
-    → condition_by vs (read_condition ws vs (n - 1)) (word ws at) at ≡ read_condition ws vs n at
-unfolding read_condition word_at
-condition_unroll ws vs zero at e nz = absurd (nz refl)
-condition_unroll ws vs (suc n) at e nz = rw (e, sub-one (suc n))
+-- r is the first word of a condition
+module _ (ws : List ℕ) (vs : List Variable) (n at : ℕ) (r : Result ℕ Fault) (er : first_said r ≡ first_word ws condition_kinds n at) where
+  condition_begins : reach (first_said r >>> λ w. condition_by vs (read_condition ws vs (n - 1)) w at) ≡ reach (read_condition ws vs n at)
+  condition_begins = ap reach (rw er (sym (first_then ws condition_kinds n at _) ∙ condition_unroll ws vs n at))
 
-module _ (ws : List ℕ) (vs : List Variable) (n at : ℕ) where
-  pub condition_past : length ws ≤ at → reached (Err (Kind at)) ≡ reach (read_condition ws vs n at)
-  unfolding fits mem reached refusal carried
-  condition_past h = condition_unfit ws vs n at (rw (kind_past ws at h))
+  pub condition_first : (q : Fault) → r ≡ Err q → reached (Err q) ≡ reach (read_condition ws vs n at)
+  unfolding first_said reached reach
+  condition_first q e =
+      let h : reached (Err q) ≡ reach (first_said r >>> λ w. condition_by vs (read_condition ws vs (n - 1)) w at) = rw e in
+      h ∙ condition_begins
 
-  module _ (w : ℕ) (f : Bool) (ew : w ≡ word ws at) (ef : f ≡ fits condition_kinds w) where
-    pub condition_bad : not f ≡ true → reached (Err (Kind at)) ≡ reach (read_condition ws vs n at)
-    unfolding reached refusal carried
-    condition_bad e = condition_unfit ws vs n at (rw (← ew, ← ef) (not-true f e))
-
-    pub condition_deep : not f ≡ false → n ≡ 0 → reached (Err (Limit at)) ≡ reach (read_condition ws vs n at)
-    unfolding read_condition reach word_at reached refusal carried
-    condition_deep e z = let g : fits condition_kinds (word ws at) ≡ true = rw (← ew, ← ef) (not-false f e) in rw (z, g)
-
-    -- a word w is there that a condition may start with, and o operands follow it
-    module _ (o : ℕ) (e : not f ≡ false) (nz : n ≡ 0 → ⊥) (eo : o ≡ W.operands w) where
-      arm : (r : Reached) → r ≡ reach (condition_by vs (read_condition ws vs (n - 1)) w at) → r ≡ reach (read_condition ws vs n at)
-      arm r er = er ∙ ap reach (rw ew (condition_unroll ws vs n at (rw (← ew, ← ef) (not-false f e)) nz))
+  -- it is w, and o operands follow it
+  module _ (w : ℕ) (e : r ≡ Ok w) where
+    module _ (o : ℕ) (eo : o ≡ W.operands w) where
+      arm : (x : Reached) → x ≡ reach (condition_by vs (read_condition ws vs (n - 1)) w at) → x ≡ reach (read_condition ws vs n at)
+      unfolding first_said
+      arm x ex =
+          let h : reach (condition_by vs (read_condition ws vs (n - 1)) w at) ≡ reach (first_said r >>> λ w. condition_by vs (read_condition ws vs (n - 1)) w at) = rw e in
+          ex ∙ h ∙ condition_begins
 
       module _ (k : ℕ) (n2 : o ≡ 2 → ⊥) (n1 : o ≡ 1 → ⊥) (ek : k ≡ W.kind w) where
         pub condition_test : (b : Bool) → k ≡ 4 → b ≡ test_ok vs w → b ≡ true → reached (Ok (at + 1)) ≡ reach (read_condition ws vs n at)
@@ -84,7 +80,7 @@ module _ (ws : List ℕ) (vs : List Variable) (n at : ℕ) where
         condition_stop q ea = two (Err q) ea _ (then_stop (Err q) _ q refl)
 
 pub ruleset conditions =
-    (condition_past, condition_bad, condition_deep, condition_test, condition_range, condition_constant, condition_not, condition_both, condition_stop)
+    (condition_first, condition_test, condition_range, condition_constant, condition_not, condition_both, condition_stop)
 
 -- ---- the two conditions of a change
 module _ (ws : List ℕ) (vs : List Variable) (n at : ℕ) where
@@ -98,36 +94,30 @@ module _ (ws : List ℕ) (vs : List Variable) (n at : ℕ) where
   change_stop q ea = rw (← ea) (then_stop (Err q) _ q refl)
 
 -- ---- events
-event_unfit : (ws : List ℕ) (vs : List Variable) (n at : ℕ) → fits event_kinds (word ws at) ≡ false
-    → Refused 2 at ≡ reach (read_event ws vs n at)
-unfolding read_event reach word_at
-event_unfit ws vs zero at e = rw e
-event_unfit ws vs (suc n) at e = rw e
+event_unroll : (ws : List ℕ) (vs : List Variable) (n at : ℕ)
+    → (word_at ws event_kinds at >>> λ w. expect (ltb 0 n) 4 at >>> λ _. event_by (read_event ws vs (n - 1)) (read_condition ws vs (n - 1)) w at) ≡ read_event ws vs n at
+unfolding read_event
+event_unroll ws vs zero at = refl
+event_unroll ws vs (suc n) at = rw (lt-ltb 0 (suc n) (omega arith), sub-one (suc n))
 
-event_unroll : (ws : List ℕ) (vs : List Variable) (n at : ℕ) → fits event_kinds (word ws at) ≡ true → (n ≡ 0 → ⊥)
-    → event_by (read_event ws vs (n - 1)) (read_condition ws vs (n - 1)) (word ws at) at ≡ read_event ws vs n at
-unfolding read_event word_at
-event_unroll ws vs zero at e nz = absurd (nz refl)
-event_unroll ws vs (suc n) at e nz = rw (e, sub-one (suc n))
+-- r is the first word of an event
+module _ (ws : List ℕ) (vs : List Variable) (n at : ℕ) (r : Result ℕ Fault) (er : first_said r ≡ first_word ws event_kinds n at) where
+  event_begins : reach (first_said r >>> λ w. event_by (read_event ws vs (n - 1)) (read_condition ws vs (n - 1)) w at) ≡ reach (read_event ws vs n at)
+  event_begins = ap reach (rw er (sym (first_then ws event_kinds n at _) ∙ event_unroll ws vs n at))
 
-module _ (ws : List ℕ) (vs : List Variable) (n at : ℕ) where
-  pub event_past : length ws ≤ at → reached (Err (Kind at)) ≡ reach (read_event ws vs n at)
-  unfolding fits mem reached refusal carried
-  event_past h = event_unfit ws vs n at (rw (kind_past ws at h))
+  pub event_first : (q : Fault) → r ≡ Err q → reached (Err q) ≡ reach (read_event ws vs n at)
+  unfolding first_said reached reach
+  event_first q e =
+      let h : reached (Err q) ≡ reach (first_said r >>> λ w. event_by (read_event ws vs (n - 1)) (read_condition ws vs (n - 1)) w at) = rw e in
+      h ∙ event_begins
 
-  module _ (w : ℕ) (f : Bool) (ew : w ≡ word ws at) (ef : f ≡ fits event_kinds w) where
-    pub event_bad : not f ≡ true → reached (Err (Kind at)) ≡ reach (read_event ws vs n at)
-    unfolding reached refusal carried
-    event_bad e = event_unfit ws vs n at (rw (← ew, ← ef) (not-true f e))
-
-    pub event_deep : not f ≡ false → n ≡ 0 → reached (Err (Limit at)) ≡ reach (read_event ws vs n at)
-    unfolding read_event reach word_at reached refusal carried
-    event_deep e z = let g : fits event_kinds (word ws at) ≡ true = rw (← ew, ← ef) (not-false f e) in rw (z, g)
-
-    module _ (o : ℕ) (e : not f ≡ false) (nz : n ≡ 0 → ⊥) (eo : o ≡ W.operands w) where
-      event_arm : (r : Reached) → r ≡ reach (event_by (read_event ws vs (n - 1)) (read_condition ws vs (n - 1)) w at)
-          → r ≡ reach (read_event ws vs n at)
-      event_arm r er = er ∙ ap reach (rw ew (event_unroll ws vs n at (rw (← ew, ← ef) (not-false f e)) nz))
+  module _ (w : ℕ) (e : r ≡ Ok w) where
+    module _ (o : ℕ) (eo : o ≡ W.operands w) where
+      event_arm : (x : Reached) → x ≡ reach (event_by (read_event ws vs (n - 1)) (read_condition ws vs (n - 1)) w at) → x ≡ reach (read_event ws vs n at)
+      unfolding first_said
+      event_arm x ex =
+          let h : reach (event_by (read_event ws vs (n - 1)) (read_condition ws vs (n - 1)) w at) ≡ reach (first_said r >>> λ w. event_by (read_event ws vs (n - 1)) (read_condition ws vs (n - 1)) w at) = rw e in
+          ex ∙ h ∙ event_begins
 
       pub event_never : (v : ℕ) → (o ≡ 2 → ⊥) → v ≡ W.truth w → v ≡ 0 → reached (Ok (at + 1)) ≡ reach (read_event ws vs n at)
       unfolding event_by reach reached
@@ -165,6 +155,6 @@ module _ (ws : List ℕ) (vs : List Variable) (n at : ℕ) where
             (er ∙ rw (add-one at) (sym (two_reach (read_condition ws vs (n - 1) (suc at)) (read_condition ws vs (n - 1)) _))))
 
 pub ruleset events =
-    (event_past, event_bad, event_deep, event_never, event_true, event_both, event_stop, event_sort, event_change)
+    (event_first, event_never, event_true, event_both, event_stop, event_sort, event_change)
 
 pub ruleset change_laws = (change_both, change_stop)

@@ -1,4 +1,4 @@
--- The word that a table, a row or an assertion begins with.
+-- The word that a table, a row, an assertion or a formula begins with.
 use Rattle.std.specs.Prelude.{ℕ, List, ltb, Result, Ok, Err}
 use Rattle.meaning.specs.Answers.{Parse, fine, stop, ◌>>>◌, expect}
 use Rattle.meaning.specs.Reading.{word_at}

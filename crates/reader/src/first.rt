@@ -1,4 +1,4 @@
-// The word that a table, a row or an assertion begins with.
+// The word that a table, a row, an assertion or a formula begins with.
 ghost use Rattle.std.specs.Prelude.{◌≡◌, ℕ, ◌<◌, Bool, false, List, length, OnOk};
 ghost use Rattle.meaning.specs.Searches.{mem};
 ghost use Rattle.meaning.specs.Reading as R;

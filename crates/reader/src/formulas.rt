@@ -1,8 +1,7 @@
 // Conditions and events. `left` levels may still stand, this word's included; each operand has one less. The table of operand counts says how many
 // follow a word.
-// A place past the end is tested first, so that the place after it is a number. Each arm returns its answer at once: the value of a match
-// would be kept and copied at every word. The first word is tested here and not by `first_word`: its answer too would be handed over at every
-// word, which was tried and takes 8,000 instructions more for the largest set, of 646,000.
+// Each arm returns its answer at once: the value of a match
+// would be kept and copied at every word.
 ghost use Rattle.std.specs.Prelude.{◌≡◌};
 ghost use Rattle.meaning.specs.Reading as R;
 ghost use Rattle.reader.specs.Known.{known};
@@ -11,24 +10,16 @@ ghost use Rattle.reader.specs.Faults.{reached};
 ghost use Rattle.reader.specs.Formulas.{change_reach};
 
 use crate::faults::Fault;
+use crate::first::first_word;
 use crate::tests::{fits_condition, fits_event, test_ok};
-use index::{Variables, word_at};
+use index::Variables;
 use word::{Change, Kind, kind, operands, sort, truth};
 
 #[tactic(auto, using(crate::proofs::FormulaLaws::conditions))]
 pub fn read_condition(set: &Variables, at: usize, left: usize) -> Result<usize, Fault>
     ensures { reached result ≡ reach (R.read_condition set.now.words.now (known set.now) left at) }
 {
-    if set.words.len() <= at {
-        return Err(Fault::Kind(at));
-    }
-    let w = word_at(set.words, at);
-    if !fits_condition(w) {
-        return Err(Fault::Kind(at));
-    }
-    if left == 0 {
-        return Err(Fault::Limit(at));
-    }
+    let w = first_word(set.words, at, left, |w| fits_condition(w))?;
     let on = at + 1;
     let less = left - 1;
     match operands(w) {
@@ -62,16 +53,7 @@ pub fn read_change(set: &Variables, at: usize, left: usize) -> Result<usize, Fau
 pub fn read_event(set: &Variables, at: usize, left: usize) -> Result<usize, Fault>
     ensures { reached result ≡ reach (R.read_event set.now.words.now (known set.now) left at) }
 {
-    if set.words.len() <= at {
-        return Err(Fault::Kind(at));
-    }
-    let w = word_at(set.words, at);
-    if !fits_event(w) {
-        return Err(Fault::Kind(at));
-    }
-    if left == 0 {
-        return Err(Fault::Limit(at));
-    }
+    let w = first_word(set.words, at, left, |w| fits_event(w))?;
     let on = at + 1;
     let less = left - 1;
     match operands(w) {

@@ -1,8 +1,8 @@
 -- Of a set that passes, what a run answers tells how many events were done: all, or, by 16, as many as its index says; or, by 17, none.
 use Rattle.std.proofs.Common.{◌≡◌, sym, ap, subst, inl, inr, List, [], ◌∷◌, append-nil, ℕ, suc, ◌+◌, ◌-◌, ◌≤◌, ◌<◌, arith, length, take, drop, take_at}
 use Rattle.std.proofs.Math.Decide.{dec_le}
+use Rattle.std.proofs.lemmas.Bool.{lt-leb}
 use Rattle.std.proofs.lemmas.List.Edits.{sets, sets-eq}
-use borrow.Author.Tests.{lt-leb}
 use Rattle.word.specs.Limits as Max
 use Rattle.meaning.specs.Answers.{Outcome, ok, refuse}
 use Rattle.meaning.specs.Syntax.{TableSet}

@@ -2,7 +2,7 @@
 use Rattle.std.specs.Prelude.{ℕ, ◌≤◌, ◌≡◌, min, List, ◌++◌, length, take, Ok, Err}
 use Rattle.std.proofs.Common.{refl, sym, ap, ◌∙◌, arith, append_assoc, append-nil, take_all, replicate}
 use Rattle.std.proofs.Math.Decide.{dec_le}
-use lib.ListN.{length-replicate}
+use Rattle.std.proofs.lemmas.List.{length-replicate}
 use Rattle.word.specs.Limits as Max
 use Rattle.meaning.specs.Answers.{ok}
 use Rattle.meaning.specs.Calls.{start_of}

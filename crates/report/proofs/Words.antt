@@ -1,11 +1,11 @@
 -- Laws of the input's words: a word by the bytes from its place on, and all of them in turn.
 use Rattle.std.specs.Prelude.{ℕ, ◌+◌, ◌*◌, ◌/◌, ◌<◌, ◌≤◌, ◌≡◌, min, List, [], ◌∷◌, ◌++◌, length, take, drop}
-use Rattle.std.specs.Int.{w32, from_le_bytes}
 use Rattle.std.proofs.Common.{arith, sym, ap, ◌∙◌, append-nil, length-append, get_or-take, add-one, add-zero, drop_of_length-le, le-leb}
 use Rattle.std.proofs.Math.Decide.{dec_le, dec_lt}
 use Rattle.std.proofs.Math.ListN.{get_or-append}
+use Rattle.std.proofs.lemmas.Bool.{lt-leb}
 use Rattle.std.proofs.lemmas.List.{length-drop, get_or-drop, drop-drop, drop_at, nil_from_length}
-use borrow.Author.Tests.{lt-leb}
+use Rattle.std.specs.Int.{w32, from_le_bytes}
 use Rattle.word.specs.Limits as Max
 use Rattle.meaning.specs.Searches.{list_of}
 use Rattle.meaning.specs.Host.{word_of_bytes}

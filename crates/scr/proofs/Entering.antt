@@ -1,12 +1,7 @@
 -- Laws of the entries, one for each way out.
-use Rattle.std.specs.Prelude.{Result, Ok, Err, is_err}
-use mathlib.Core.Path.{◌≡◌, refl, sym, ap, ◌∙◌}
-use mathlib.Core.Bool.{Bool, true, false, not}
-use mathlib.Core.List.{List, []}
-use Prim.Native.Nat.{ℕ, ◌-◌, ◌≤◌, ◌<◌}
-use native.Mathlib.Omega.{arith}
-use lib.ListN.{length, take, drop}
-use borrow.Author.Tests.{not-true, not-false}
+use Rattle.std.specs.Prelude.{Result, Ok, Err, is_err, ◌≡◌, refl, Bool, true, false, not, List, [], ℕ, ◌-◌, ◌≤◌, ◌<◌, length, take, drop}
+use Rattle.std.proofs.Common.{sym, ap, ◌∙◌, arith}
+use Rattle.std.proofs.lemmas.Bool.{not-true, not-false}
 use Rattle.meaning.specs.Answers.{Outcome, ok, refuse, ◌>>=◌}
 use Rattle.meaning.specs.Searches.{least}
 use Rattle.meaning.specs.Syntax.{TableSet}

@@ -1,13 +1,10 @@
 -- Laws of a run of a set that reads, two for each way out: the answer, and the lent list.
-use Rattle.std.specs.Prelude.{Result, Ok, Err}
-use mathlib.Core.Path.{◌≡◌, refl, ◌∙◌}
-use mathlib.Core.List.{List, [], ◌∷◌, ◌++◌, append-nil}
-use Prim.Native.Nat.{ℕ, suc, ◌+◌, ◌-◌, ◌≤◌, ◌<◌}
-use native.Mathlib.Omega.{arith}
-use native.Mathlib.Nat.{add-zero}
-use lib.ListN.{length, take, drop, set, take-append-drop, length-drop, drop_of_length-le}
-use lib.Seq.{sets, take_all, take-set-le, drop-set-add}
-use borrow.Author.Tests.{le-ltb, lt-ltb, lt-leb, le-leb}
+use Rattle.std.specs.Prelude.{Result, Ok, Err, ◌≡◌, refl, List, [], ◌∷◌, ◌++◌, ℕ, suc, ◌+◌, ◌-◌, ◌≤◌, ◌<◌, length, take, drop, set}
+use Rattle.std.proofs.Common.{◌∙◌, append-nil, arith, add-zero, take-append-drop, length-drop, drop_of_length-le, take_all, le-ltb, lt-ltb, le-leb}
+use Rattle.std.proofs.lemmas.Bool.{lt-leb}
+use Rattle.std.proofs.lemmas.List.{take-set-le, drop-set-add}
+use Rattle.std.proofs.lemmas.List.Edits.{sets}
+-- std does not pass these on
 use borrow.Rule.Slice.PartMut.{put_mid}
 use Rattle.word.specs.Limits as Max
 use Rattle.meaning.specs.Answers.{refuse}

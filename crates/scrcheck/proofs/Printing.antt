@@ -1,9 +1,10 @@
 -- Laws of the program as a whole: what is read is all of the input that is looked at, and what is written is what report made.
 use Rattle.std.proofs.Common.{◌≡◌, ℕ, ◌+◌, ◌<◌, ◌≤◌, List, [], ◌++◌, length, take, drop, sym, ap, ◌∙◌, subst, Option, Some, None, length-take-le, append-nil, le_refl, arith}
 use Rattle.std.proofs.Math.Decide.{dec_lt}
+use Rattle.std.proofs.Math.Seq.{take-length, length-sets}
+use Rattle.std.proofs.lemmas.List.{take-append-le}
 use Rattle.std.proofs.lemmas.List.Edits.{sets, sets-eq}
 use Rattle.std.specs.Io.KnownBytes.{Consumes, IsAtEnd, Appends}
-use lib.Seq.{take-append-le, take-length, length-sets}
 use Rattle.meaning.specs.Program.{program_of}
 use Rattle.report.specs.Beyond.{max_input, beyond_ignored}
 use Rattle.scrcheck.specs.Prints.{Prints}

@@ -2,7 +2,7 @@
 use Rattle.std.specs.Prelude.{ℕ, ◌+◌, ◌/◌, ◌%◌, ◌<◌, ◌≤◌, ◌≡◌, ◌⊎◌, List, [], ◌∷◌, length, Ok, Err}
 use Rattle.std.proofs.Common.{arith, refl, inl, inr, eq-eqb, ne_eqb, le-leb}
 use Rattle.std.proofs.Math.Decide.{dec_lt}
-use borrow.Author.Tests.{lt-leb}
+use Rattle.std.proofs.lemmas.Bool.{lt-leb}
 use Rattle.word.specs.Limits as Max
 use Rattle.meaning.specs.Answers.{Outcome, ok, refuse, ◌>>=◌}
 use Rattle.meaning.specs.Searches.{within}

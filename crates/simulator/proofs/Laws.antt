@@ -1,6 +1,6 @@
 -- One law for each way out of the functions of this crate, in the code's own terms.
 use Rattle.std.proofs.Common.{◌≡◌, refl, sym, ap, ◌∙◌, ℕ, zero, suc, ◌+◌, ◌-◌, ◌%◌, ◌≤◌, ◌<◌, Bool, true, not, eqb, List, length, get_or, set, drop, drop_of_length-le, drop-cons, arith, add-one, ne_eqb, Result, Ok, Err, MatchResult, IsErrAnd}
-use borrow.Author.Tests.{not-true}
+use Rattle.std.proofs.lemmas.Bool.{not-true}
 use Rattle.word.specs.Fields as W
 use Rattle.word.specs.Limits as Max
 use Rattle.meaning.specs.Answers.{ok, ◌>>=◌, if◌give◌else◌}

@@ -1,5 +1,43 @@
-use Rattle.reader.proofs.FormulaLaws.{conditions}
+use Rattle.std.proofs.Common.{refl, rules}
+use Rattle.std.proofs.lemmas.Result.{err_from_is_err_and}
+use Rattle.meaning.specs.Searches.{mem}
+use Rattle.meaning.specs.Reading.{condition_kinds}
+use Rattle.reader.proofs.FormulaLaws.{conditions, condition_first, condition_stop, condition_both}
 use Rattle.reader.proofs.formulas.+read_condition.Goals as goal
 
+pub returns-in_err-w : goal.returns-in_err-w
+returns-in_err-w t c =
+    let begins = c.first_word.ensures.value condition_kinds (unfold mem in refl) (λ x b q. search rules) in
+    let p = err_from_is_err_and c.from_residual.result c.from_residual.ensures.1 in
+    rw (p.1, p.2) (condition_first _ _ _ _ _ begins _ c.in_err-w.was)
+
+pub returns-in_err-second-in-2 : goal.returns-in_err-second-in-2
+returns-in_err-second-in-2 t c =
+    let begins = c.first_word.ensures.value condition_kinds (unfold mem in refl) (λ x b q. search rules) in
+    let p = err_from_is_err_and c.from_residual-in_err-second-in-2.result c.from_residual-in_err-second-in-2.ensures.1 in
+    rw (p.1, p.2) (search (condition_stop, c.in_ok-w.was, c.in_err-second-in-2.ensures))
+
+pub returns-in-2 : goal.returns-in-2
+returns-in-2 t c =
+    let begins = c.first_word.ensures.value condition_kinds (unfold mem in refl) (λ x b q. search rules) in
+    search (condition_both, c.in_ok-w.was, c.in_ok-second-in-2.ensures)
+
+pub returns-in-1 : goal.returns-in-1
+returns-in-1 t c =
+    let begins = c.first_word.ensures.value condition_kinds (unfold mem in refl) (λ x b q. search rules) in
+    search (conditions, c.in_ok-w.was)
+
 pub returns-then-kind : goal.returns-then-kind
-returns-then-kind t c = search conditions
+returns-then-kind t c =
+    let begins = c.first_word.ensures.value condition_kinds (unfold mem in refl) (λ x b q. search rules) in
+    search (conditions, c.in_ok-w.was)
+
+pub returns-then-test_ok : goal.returns-then-test_ok
+returns-then-test_ok t c =
+    let begins = c.first_word.ensures.value condition_kinds (unfold mem in refl) (λ x b q. search rules) in
+    search (conditions, c.in_ok-w.was)
+
+pub returns-in_default : goal.returns-in_default
+returns-in_default t c =
+    let begins = c.first_word.ensures.value condition_kinds (unfold mem in refl) (λ x b q. search rules) in
+    search (conditions, c.in_ok-w.was)
