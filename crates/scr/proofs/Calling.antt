@@ -18,6 +18,7 @@ use Rattle.simulator.specs.Walks.{Settled, clash_is, joined, state_walk, settled
 use Rattle.simulator.specs.StepIndex.{no_step_is, stepped_says, ended_says, step_index, examined}
 use Rattle.simulator.proofs.Laws.{said}
 use Rattle.simulator.proofs.Means.{values_means, step_means}
+use Rattle.scr.specs.declared.reading.Reading.{Reading}
 use Rattle.scr.specs.declared.Refusal.{Refusal}
 use Rattle.scr.specs.declared.Refusal.TheVariants as R
 use Rattle.index.specs.declared.variables.Extent.{Extent}
@@ -41,98 +42,103 @@ module _ (x : Index) (ext : Extent) (h : IndexOf x ext) where
         mod-eq_of_lt low,
       )
 
+module _ (o : Reading) where
   -- ---- step
   module _ (s w : ℕ) where
-    pub step_no_state : ext.states ≤ s → answer_says (Err (R.NoState s)) ≡ step_of x.variables.words.now s w
+    pub step_no_state : o.extent.states ≤ s → answer_says (Err (R.NoState s)) ≡ step_of o.index.variables.words.now s w
     unfolding answer_says refused refusal_says step_of
-    step_no_state l = rw (h.reads, le-ltb s _ (no_state h s l))
+    step_no_state l = rw (o.index_of.reads, le-ltb s _ (no_state o.index_of s l))
 
-    module _ (r : Result ℕ Stopped) (l : s < ext.states)
-        (er : ended_says r ≡ step_index x.variables.words.now x.variables.places.now x.weights.now x.order.now x.variables.count 0 s w) where
-      stepped_is : ended_says r ≡ step_of x.variables.words.now s w
+    module _ (r : Result ℕ Stopped) (l : s < o.extent.states)
+        (er : ended_says r ≡ step_index o.index.variables.words.now o.index.variables.places.now o.index.weights.now o.index.order.now o.index.variables.count 0 s w) where
+      stepped_is : ended_says r ≡ step_of o.index.variables.words.now s w
       unfolding step_of
       stepped_is =
-          let typed = typed_state h s l in
-          rw (h.reads, lt-ltb s _ typed)
-          ((rw h.order_is at er)
-          ∙ step_means x.variables.words.now h.set x.variables.count ext.assertions x.variables.places.now x.weights.now h.typed.indexed (well h)
-          h.typed.weights_are h.acyclic (few h) 0 s w typed)
+          let typed = typed_state o.index_of s l in
+          rw (o.index_of.reads, lt-ltb s _ typed)
+          ((rw o.index_of.order_is at er)
+          ∙ step_means o.index.variables.words.now o.index_of.set o.index.variables.count o.extent.assertions o.index.variables.places.now o.index.weights.now o.index_of.typed.indexed (well o.index_of)
+          o.index_of.typed.weights_are o.index_of.acyclic (few o.index_of) 0 s w typed)
 
-      pub step_done : (t : ℕ) → r ≡ Ok t → answer_says (Ok t) ≡ step_of x.variables.words.now s w
+      pub step_done : (t : ℕ) → r ≡ Ok t → answer_says (Ok t) ≡ step_of o.index.variables.words.now s w
       unfolding answer_says ended_says
       step_done t e = (rw e at stepped_is)
 
-      pub step_refused : (y : Stopped) (q : Refusal) → r ≡ Err y → refusal_says q ≡ no_step_is y.state (input_of y.event) y.why → answer_says (Err q) ≡ step_of x.variables.words.now s w
+      pub step_refused : (y : Stopped) (q : Refusal) → r ≡ Err y → refusal_says q ≡ no_step_is y.state (input_of y.event) y.why → answer_says (Err q) ≡ step_of o.index.variables.words.now s w
       unfolding answer_says ended_says stepped_says
       step_refused y q e eq = refused_says q _ _ eq ∙ (rw e at stepped_is)
 
   -- ---- values
   module _ (s room : ℕ) where
-    values_said : values_of x.variables.words.now s room
-        ≡ (demand (leb x.variables.count room) 17 (x.variables.count ∷ []) >>= λ _. demand (ltb s ext.states) 15 (s ∷ []) >>= λ _.
-        examined x.variables.words.now x.variables.places.now x.weights.now x.order.now x.variables.count s)
+    values_said : values_of o.index.variables.words.now s room
+        ≡ (demand (leb o.index.variables.count room) 17 (o.index.variables.count ∷ []) >>= λ _. demand (ltb s o.extent.states) 15 (s ∷ []) >>= λ _.
+        examined o.index.variables.words.now o.index.variables.places.now o.index.weights.now o.index.order.now o.index.variables.count s)
     unfolding values_of examined
     values_said =
         rw (
-          h.reads,
-          h.typed.states_are,
-          h.order_is,
-          count_is x.variables.words.now h.set x.variables.count ext.assertions x.variables.places.now x.weights.now h.typed.indexed (well h) h.typed.weights_are,
-          values_means x.variables.words.now h.set x.variables.count ext.assertions x.variables.places.now x.weights.now h.typed.indexed (well h)
-              h.typed.weights_are s (input_of 0),
+          o.index_of.reads,
+          o.index_of.typed.states_are,
+          o.index_of.order_is,
+          count_is o.index.variables.words.now o.index_of.set o.index.variables.count o.extent.assertions o.index.variables.places.now o.index.weights.now o.index_of.typed.indexed (well o.index_of) o.index_of.typed.weights_are,
+          values_means o.index.variables.words.now o.index_of.set o.index.variables.count o.extent.assertions o.index.variables.places.now o.index.weights.now o.index_of.typed.indexed (well o.index_of)
+              o.index_of.typed.weights_are s (input_of 0),
         )
 
-    pub count_room : room < x.variables.count → answer_says (Err (R.Room x.variables.count)) ≡ count_of (values_of x.variables.words.now s room)
+    pub count_room : room < o.index.variables.count → answer_says (Err (R.Room o.index.variables.count)) ≡ count_of (values_of o.index.variables.words.now s room)
     unfolding answer_says refused refusal_says count_of
-    count_room l = rw (values_said, lt-leb x.variables.count room l)
+    count_room l = rw (values_said, lt-leb o.index.variables.count room l)
 
-    pub kept_room : (out : List ℕ) → room < x.variables.count → out ≡ lent_values (values_of x.variables.words.now s room) out
+    pub kept_room : (out : List ℕ) → room < o.index.variables.count → out ≡ lent_values (values_of o.index.variables.words.now s room) out
     unfolding lent_values
-    kept_room out l = rw (values_said, lt-leb x.variables.count room l)
+    kept_room out l = rw (values_said, lt-leb o.index.variables.count room l)
 
-    module _ (l : x.variables.count ≤ room) where
-      pub count_no_state : ext.states ≤ s → answer_says (Err (R.NoState s)) ≡ count_of (values_of x.variables.words.now s room)
+    module _ (l : o.index.variables.count ≤ room) where
+      pub count_no_state : o.extent.states ≤ s → answer_says (Err (R.NoState s)) ≡ count_of (values_of o.index.variables.words.now s room)
       unfolding answer_says refused refusal_says count_of
-      count_no_state k = rw (values_said, le-leb x.variables.count room l, le-ltb s ext.states k)
+      count_no_state k = rw (values_said, le-leb o.index.variables.count room l, le-ltb s o.extent.states k)
 
-      pub kept_no_state : (out : List ℕ) → ext.states ≤ s → out ≡ lent_values (values_of x.variables.words.now s room) out
+      pub kept_no_state : (out : List ℕ) → o.extent.states ≤ s → out ≡ lent_values (values_of o.index.variables.words.now s room) out
       unfolding lent_values
-      kept_no_state out k = rw (values_said, le-leb x.variables.count room l, le-ltb s ext.states k)
+      kept_no_state out k = rw (values_said, le-leb o.index.variables.count room l, le-ltb s o.extent.states k)
 
       -- by what settling gave
-      module _ (k : s < ext.states) (own : List ℕ) (m : ℕ) (r : Settled) (em : m ≡ x.variables.count)
-          (er : joined r own ≡ state_walk x.variables.words.now x.variables.places.now x.weights.now s x.order.now (list_of (digit_at x.variables.words.now x.variables.places.now x.weights.now s) m)) where
-        examined_says : values_of x.variables.words.now s room ≡ settled_says 0 s (input_of 0) own r
+      module _ (k : s < o.extent.states) (own : List ℕ) (m : ℕ) (r : Settled) (em : m ≡ o.index.variables.count)
+          (er : joined r own ≡ state_walk o.index.variables.words.now o.index.variables.places.now o.index.weights.now s o.index.order.now (list_of (digit_at o.index.variables.words.now o.index.variables.places.now o.index.weights.now s) m)) where
+        examined_says : values_of o.index.variables.words.now s room ≡ settled_says 0 s (input_of 0) own r
         unfolding examined
         examined_says =
-            rw (values_said, le-leb x.variables.count room l, lt-ltb s ext.states k)
-            (said 0 s (input_of 0) r own (state_walk x.variables.words.now x.variables.places.now x.weights.now s x.order.now (list_of (digit_at x.variables.words.now x.variables.places.now x.weights.now s) x.variables.count)) (rw em at er))
+            rw (values_said, le-leb o.index.variables.count room l, lt-ltb s o.extent.states k)
+            (said 0 s (input_of 0) r own (state_walk o.index.variables.words.now o.index.variables.places.now o.index.weights.now s o.index.order.now (list_of (digit_at o.index.variables.words.now o.index.variables.places.now o.index.weights.now s) o.index.variables.count)) (rw em at er))
 
         -- a refusal writes nothing
         module _ (f : Unsettled) (ef : r ≡ Err f) where
-          not_settled : values_of x.variables.words.now s room ≡ refuse (clash_is 0 s (input_of 0) f.variable f.why).0 (clash_is 0 s (input_of 0) f.variable f.why).1
+          not_settled : values_of o.index.variables.words.now s room ≡ refuse (clash_is 0 s (input_of 0) f.variable f.why).0 (clash_is 0 s (input_of 0) f.variable f.why).1
           unfolding settled_says
           not_settled = examined_says ∙ rw ef
 
           pub unsettled_count : (q : Refusal) → refusal_says q ≡ clash_is 0 s (record { variable = 0; value = 0 }) f.variable f.why
-              → answer_says (Err q) ≡ count_of (values_of x.variables.words.now s room)
+              → answer_says (Err q) ≡ count_of (values_of o.index.variables.words.now s room)
           unfolding answer_says count_of input_of W.variable W.value
           unsettled_count q eq = rw not_settled (refused_says q _ _ eq)
 
-          pub unsettled_kept : (out : List ℕ) → out ≡ lent_values (values_of x.variables.words.now s room) out
+          pub unsettled_kept : (out : List ℕ) → out ≡ lent_values (values_of o.index.variables.words.now s room) out
           unfolding lent_values
           unsettled_kept out = rw not_settled
 
         module _ (u : Unit {0}) (eu : r ≡ Ok u) where
-          pub done_count : length own ≡ m → answer_says (Ok x.variables.count) ≡ count_of (values_of x.variables.words.now s room)
+          pub done_count : length own ≡ m → answer_says (Ok o.index.variables.count) ≡ count_of (values_of o.index.variables.words.now s room)
           unfolding settled_says answer_says count_of
           done_count long = rw (examined_says, eu) (ap ok (sym (long ∙ em)))
 
           -- the values are written to the front of the lent list
-          pub done_written : (out b : List ℕ) → length own ≡ m → x.variables.count ≤ length out → b ≡ own
-              → b ++ drop (length own) out ≡ lent_values (values_of x.variables.words.now s room) out
+          pub done_written : (out b : List ℕ) → length own ≡ m → o.index.variables.count ≤ length out → b ≡ own
+              → b ++ drop (length own) out ≡ lent_values (values_of o.index.variables.words.now s room) out
           unfolding settled_says lent_values
           done_written out b long room eb =
               let z : 0 + length own ≡ length own = omega arith in
               let e = sets-eq own out 0 (omega (arith, long, em)) in
               rw (examined_says, eu, eb) (sym (e ∙ ap (λ (n : ℕ). own ++ drop n out) z))
+
+pub ruleset values_laws = (count_room, kept_room, count_no_state, kept_no_state)
+
+pub ruleset examine_laws = (unsettled_count, unsettled_kept, done_count, done_written)

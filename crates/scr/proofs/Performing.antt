@@ -14,12 +14,12 @@ use Rattle.simulator.specs.declared.Stopped.{Stopped}
 use Rattle.simulator.specs.StepIndex.{no_step_is, stepped_says, ended_says}
 use Rattle.simulator.specs.RunIndex.{run_index}
 use Rattle.simulator.proofs.Means.{run_means}
+use Rattle.scr.specs.declared.reading.Reading.{Reading}
 use Rattle.scr.specs.declared.Refusal.{Refusal}
 use Rattle.scr.specs.declared.Refusal.TheVariants as R
 use Rattle.scr.specs.Answers.{Answer, refusal_says, refused, answer_says}
-use Rattle.index.specs.declared.variables.Extent.{Extent}
 use Rattle.index.specs.declared.variables.Index.{Index}
-use Rattle.scr.specs.Opened.{IndexOf, run_in}
+use Rattle.scr.specs.Opened.{run_in}
 use Rattle.scr.proofs.Refusing.{refused_says}
 use Rattle.scr.proofs.Indexing.{well, few, typed_state, no_state}
 
@@ -40,79 +40,79 @@ module _ (x : Index) (s : ℕ) (es : List ℕ) where
   performed_written lent after e = e
 
 -- ---- the tests before them
-module _ (x : Index) (ext : Extent) (h : IndexOf x ext) (s : ℕ) (es lent : List ℕ) (place : ℕ) where
+module _ (o : Reading) (s : ℕ) (es lent : List ℕ) (place : ℕ) where
   abbrev room : ℕ
   room = length lent - place
 
-  stopped : (k : ℕ) (xs : List ℕ) → run_ready x.variables.words.now s (length es) room ≡ refuse k xs → run_of x.variables.words.now s es lent place ≡ record { answer = refuse k xs; lent = lent }
+  stopped : (k : ℕ) (xs : List ℕ) → run_ready o.index.variables.words.now s (length es) room ≡ refuse k xs → run_of o.index.variables.words.now s es lent place ≡ record { answer = refuse k xs; lent = lent }
   unfolding run_of ran_of
   stopped k xs e = rw (e, ran_of)
 
-  many : Max.max_events < length es → run_ready x.variables.words.now s (length es) room ≡ refuse 17 (suc Max.max_events ∷ [])
+  many : Max.max_events < length es → run_ready o.index.variables.words.now s (length es) room ≡ refuse 17 (suc Max.max_events ∷ [])
   unfolding run_ready
-  many l = rw (h.reads, lt-leb (length es) Max.max_events l)
+  many l = rw (o.index_of.reads, lt-leb (length es) Max.max_events l)
 
-  short : length es ≤ Max.max_events → room < length es → run_ready x.variables.words.now s (length es) room ≡ refuse 17 (length es ∷ [])
+  short : length es ≤ Max.max_events → room < length es → run_ready o.index.variables.words.now s (length es) room ≡ refuse 17 (length es ∷ [])
   unfolding run_ready
-  short l k = rw (h.reads, le-leb (length es) Max.max_events l, lt-leb (length es) room k)
+  short l k = rw (o.index_of.reads, le-leb (length es) Max.max_events l, lt-leb (length es) room k)
 
-  untyped : length es ≤ Max.max_events → length es ≤ room → ext.states ≤ s → run_ready x.variables.words.now s (length es) room ≡ refuse 15 (s ∷ [])
+  untyped : length es ≤ Max.max_events → length es ≤ room → o.extent.states ≤ s → run_ready o.index.variables.words.now s (length es) room ≡ refuse 15 (s ∷ [])
   unfolding run_ready
-  untyped l k c = rw (h.reads, le-leb (length es) Max.max_events l, le-leb (length es) room k, le-ltb s _ (no_state h s c))
+  untyped l k c = rw (o.index_of.reads, le-leb (length es) Max.max_events l, le-leb (length es) room k, le-ltb s _ (no_state o.index_of s c))
 
-  runs : length es ≤ Max.max_events → length es ≤ room → s < ext.states
-      → run_of x.variables.words.now s es lent place ≡ record { answer = (run_in x s es).last; lent = sets lent place (run_in x s es).done }
+  runs : length es ≤ Max.max_events → length es ≤ room → s < o.extent.states
+      → run_of o.index.variables.words.now s es lent place ≡ record { answer = (run_in o.index s es).last; lent = sets lent place (run_in o.index s es).done }
   unfolding run_of ran_of run_ready run_in
   runs l k c =
-      let typed = typed_state h s c in
+      let typed = typed_state o.index_of s c in
       rw (
-        h.reads,
+        o.index_of.reads,
         le-leb (length es) Max.max_events l,
         le-leb (length es) room k,
         lt-ltb s _ typed,
-        h.order_is,
-        run_means x.variables.words.now h.set x.variables.count ext.assertions x.variables.places.now x.weights.now h.typed.indexed (well h) h.typed.weights_are
-            h.acyclic (few h) 0 s es typed,
+        o.index_of.order_is,
+        run_means o.index.variables.words.now o.index_of.set o.index.variables.count o.extent.assertions o.index.variables.places.now o.index.weights.now o.index_of.typed.indexed (well o.index_of) o.index_of.typed.weights_are
+            o.index_of.acyclic (few o.index_of) 0 s es typed,
         ran_of,
       )
 
   module _ (l : Max.max_events < length es) where
-    pub many_answer : answer_says (Err (R.Room (Max.max_events + 1))) ≡ (run_of x.variables.words.now s es lent place).answer
+    pub many_answer : answer_says (Err (R.Room (Max.max_events + 1))) ≡ (run_of o.index.variables.words.now s es lent place).answer
     unfolding answer_says refused refusal_says
     many_answer = rw (stopped 17 _ (many l))
 
-    pub many_kept : lent ≡ (run_of x.variables.words.now s es lent place).lent
+    pub many_kept : lent ≡ (run_of o.index.variables.words.now s es lent place).lent
     many_kept = rw (stopped 17 _ (many l))
 
   module _ (free : ℕ) (ef : free ≡ room) (l : length es ≤ Max.max_events) where
     module _ (k : free < length es) where
-      abbrev Short : run_ready x.variables.words.now s (length es) room ≡ refuse 17 (length es ∷ [])
+      abbrev Short : run_ready o.index.variables.words.now s (length es) room ≡ refuse 17 (length es ∷ [])
       Short = short l (rw (← ef) k)
 
-      pub short_answer : answer_says (Err (R.Room (length es))) ≡ (run_of x.variables.words.now s es lent place).answer
+      pub short_answer : answer_says (Err (R.Room (length es))) ≡ (run_of o.index.variables.words.now s es lent place).answer
       unfolding answer_says refused refusal_says
       short_answer = rw (stopped 17 _ Short)
 
-      pub short_kept : lent ≡ (run_of x.variables.words.now s es lent place).lent
+      pub short_kept : lent ≡ (run_of o.index.variables.words.now s es lent place).lent
       short_kept = rw (stopped 17 _ Short)
 
     module _ (k : length es ≤ free) where
       enough : length es ≤ room
       enough = rw (← ef) k
 
-      module _ (c : ext.states ≤ s) where
-        pub state_answer : answer_says (Err (R.NoState s)) ≡ (run_of x.variables.words.now s es lent place).answer
+      module _ (c : o.extent.states ≤ s) where
+        pub state_answer : answer_says (Err (R.NoState s)) ≡ (run_of o.index.variables.words.now s es lent place).answer
         unfolding answer_says refused refusal_says
         state_answer = rw (stopped 15 _ (untyped l enough c))
 
-        pub state_kept : lent ≡ (run_of x.variables.words.now s es lent place).lent
+        pub state_kept : lent ≡ (run_of o.index.variables.words.now s es lent place).lent
         state_kept = rw (stopped 15 _ (untyped l enough c))
 
-      module _ (c : s < ext.states) where
-        pub run_answer : (a : Answer) → answer_says a ≡ (run_in x s es).last → answer_says a ≡ (run_of x.variables.words.now s es lent place).answer
+      module _ (c : s < o.extent.states) where
+        pub run_answer : (a : Answer) → answer_says a ≡ (run_in o.index s es).last → answer_says a ≡ (run_of o.index.variables.words.now s es lent place).answer
         run_answer a e = rw (runs l enough c) e
 
-        pub run_written : (after : List ℕ) → after ≡ sets lent place (run_in x s es).done → after ≡ (run_of x.variables.words.now s es lent place).lent
+        pub run_written : (after : List ℕ) → after ≡ sets lent place (run_in o.index s es).done → after ≡ (run_of o.index.variables.words.now s es lent place).lent
         run_written after e = rw (runs l enough c) e
 
 -- ---- a place at or past the end: there are no events
@@ -145,3 +145,7 @@ lent_back l ys vs p h e =
     let whole : length (drop p l) ≤ length l - p = simp length-drop (omega arith) in
     rw (e, take_all (length l - p) (drop p l) whole, drop_of_length-le (drop p l) whole, append-nil (sets (drop p l) 0 vs))
     (part_sets l p 0 vs ∙ rw (add-zero p))
+
+pub ruleset perform_from_laws = (past_answer, past_kept, lent_back)
+
+pub ruleset run_laws = (many_answer, many_kept, short_kept, state_answer, state_kept, run_answer, run_written)

@@ -3,6 +3,7 @@
 // stand where they speak of the entry.
 #![tactic(auto)]
 
+mod reading; // a set that reads
 mod refusals; // making refusals
 mod runs; // a run of a set that reads
 mod stepping; // a step of a set that reads
@@ -25,10 +26,10 @@ ghost use Rattle.scr.specs.Promises.{Demand2, StartsExactly, StepsExactly, Value
 
 pub use order::Cycle;
 use part::{part_end, part_start};
+use reading::Reading;
 use set::read_set;
 pub use simulator::Input;
 use state::initial_state;
-use verdicts::verdict;
 use word::Value;
 
 // ---- answers
@@ -101,7 +102,7 @@ pub struct Counts {
 }
 
 // ---- entries
-// All begin with the reading and hand the index on. They are alike no further, step and values too: each has a promise of its own.
+// All begin with the reading. They are alike no further, step and values too: each has a promise of its own.
 
 // The initial state, which holds the initial values, or the first of refusals 1 to 9.
 pub fn start(words: &[u32]) -> Result<u32, Refusal>
@@ -122,7 +123,7 @@ pub fn check(words: &[u32]) -> Result<Counts, Refusal>
     ensures demand2 { Demand2 words.now result }
 {
     let opened = read_set(words)?;
-    verdict(&opened.index(words), opened.extent)
+    Reading::new(&opened, words).verdict()
 }
 
 // The next state, or the refusal. It answers a state exactly if that is the one next state by the SCR rules, met without gap or overlap,
@@ -133,7 +134,7 @@ pub fn step(words: &[u32], state: u32, event: u32) -> Result<u32, Refusal>
     ensures steps_exactly { StepsExactly words.now state event result }
 {
     let opened = read_set(words)?;
-    stepping::step(&opened.index(words), opened.extent, state, event)
+    Reading::new(&opened, words).step(state, event)
 }
 
 // The events in turn from a state on. The state after each event done is written to the lent list from the place on, and the last is given;
@@ -151,14 +152,7 @@ pub fn run(
     ensures demand3 { Demand3 words.now state events.now trace.old place (answer_says result) trace.new }
 {
     let opened = read_set(words)?;
-    runs::run(
-        &opened.index(words),
-        opened.extent,
-        state,
-        events,
-        trace,
-        place,
-    )
+    Reading::new(&opened, words).run(state, events, trace, place)
 }
 
 // The values of a state, one a variable at the front of a lent list; elements beyond keep their content. They are written exactly if they are the
@@ -170,7 +164,7 @@ pub fn values(words: &[u32], state: u32, out: &mut [Value]) -> Result<usize, Ref
     ensures values_exactly { ValuesExactly words.now state out.old result out.new }
 {
     let opened = read_set(words)?;
-    valuing::values(&opened.index(words), opened.extent, state, out)
+    Reading::new(&opened, words).values(state, out)
 }
 
 // The rows of a variable's table, as a part of the caller's words: those that reading the table took, its table word first; the empty part

@@ -1,52 +1,48 @@
-// The values of a state of a set that reads, by its index.
+// The values of a state of a set that reads.
 ghost use Rattle.std.specs.Prelude.{◌≡◌, ℕ, ◌<◌, ◌≤◌, length};
 ghost use Rattle.meaning.specs.Calls.{values_of, lent_values};
 ghost use Rattle.scr.specs.Answers.{answer_says, count_of};
-ghost use Rattle.scr.specs.Opened.{IndexOf};
 
+use crate::reading::Reading;
 use crate::refusals::unsettled;
 use crate::{Input, Refusal};
-use index::{Extent, Index};
 use simulator::values_in;
 use word::{MAX_VARIABLES, Value};
 
-// The state is examined in a list of its own, so that a refusal writes nothing to the lent one.
-fn examine(
-    index: &Index,
-    extent: Extent,
-    s: u32,
-    own: &mut [Value],
-    out: &mut [Value],
-) -> Result<usize, Refusal>
-    requires { IndexOf index.now extent × (length own.old ≡ index.now.variables.count) × (index.now.variables.count ≤ length out.old) × (s < extent.states) }
-    ensures result_value { answer_says result ≡ count_of (values_of index.now.variables.words.now s (length out.old)) }
-    ensures out_after { out.new ≡ lent_values (values_of index.now.variables.words.now s (length out.old)) out.old }
-{
-    let none = Input {
-        variable: 0,
-        value: 0,
-    };
-    match values_in(index, s, own) {
-        Err(fault) => Err(unsettled(0, s, none, fault)),
-        Ok(()) => {
-            out[..own.len()].copy_from_slice(own);
-            Ok(index.variables.count)
+impl Reading<'_> {
+    // The state is examined in a list of its own, so that a refusal writes nothing to the lent one.
+    #[tactic(auto, using(crate::proofs::Calling::examine_laws))]
+    fn examine(&self, s: u32, own: &mut [Value], out: &mut [Value]) -> Result<usize, Refusal>
+        requires { (length own.old ≡ self.now.index.variables.count) × (self.now.index.variables.count ≤ length out.old) × (s < self.now.extent.states) }
+        ensures result_value { answer_says result ≡ count_of (values_of self.now.index.variables.words.now s (length out.old)) }
+        ensures out_after { out.new ≡ lent_values (values_of self.now.index.variables.words.now s (length out.old)) out.old }
+    {
+        let none = Input {
+            variable: 0,
+            value: 0,
+        };
+        match values_in(&self.index, s, own) {
+            Err(fault) => Err(unsettled(0, s, none, fault)),
+            Ok(()) => {
+                out[..own.len()].copy_from_slice(own);
+                Ok(self.index.variables.count)
+            }
         }
     }
-}
 
-pub fn values(index: &Index, extent: Extent, s: u32, out: &mut [Value]) -> Result<usize, Refusal>
-    requires { IndexOf index.now extent }
-    ensures result_value { answer_says result ≡ count_of (values_of index.now.variables.words.now s (length out.old)) }
-    ensures out_after { out.new ≡ lent_values (values_of index.now.variables.words.now s (length out.old)) out.old }
-{
-    let n = index.variables.count;
-    if out.len() < n {
-        return Err(Refusal::Room(n));
+    #[tactic(auto, using(crate::proofs::Calling::values_laws))]
+    pub fn values(&self, s: u32, out: &mut [Value]) -> Result<usize, Refusal>
+        ensures result_value { answer_says result ≡ count_of (values_of self.now.index.variables.words.now s (length out.old)) }
+        ensures out_after { out.new ≡ lent_values (values_of self.now.index.variables.words.now s (length out.old)) out.old }
+    {
+        let n = self.index.variables.count;
+        if out.len() < n {
+            return Err(Refusal::Room(n));
+        }
+        if self.extent.states <= s {
+            return Err(Refusal::NoState(s));
+        }
+        let mut own = [0 as Value; MAX_VARIABLES];
+        self.examine(s, &mut own[..n], out)
     }
-    if extent.states <= s {
-        return Err(Refusal::NoState(s));
-    }
-    let mut own = [0 as Value; MAX_VARIABLES];
-    examine(index, extent, s, &mut own[..n], out)
 }

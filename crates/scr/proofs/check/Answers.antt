@@ -6,8 +6,8 @@ use Rattle.scr.proofs.Entering.{opens, check_refused}
 use Rattle.scr.proofs.Demanded.{check_demand, demand_2}
 use Rattle.scr.proofs.check.Goals as goal
 
-pub index-requires : goal.index-requires
-index-requires c = opens _ _ c.read_set.ensures _ c.in_ok-opened.was
+pub new-requires : goal.new-requires
+new-requires c = opens _ _ c.read_set.ensures _ c.in_ok-opened.was
 
 pub returns-in_err-opened : goal.returns-in_err-opened
 returns-in_err-opened c =
@@ -17,5 +17,5 @@ returns-in_err-opened c =
 
 pub returns : goal.returns
 returns c =
-    let v = rw c.index.ensures.words_value at c.verdict.ensures in
+    let v = rw c.new.ensures at c.verdict.ensures in
     record { result_value = v; answers_or_refuses = check_demand _ _ v; demand2 = demand_2 _ _ v }

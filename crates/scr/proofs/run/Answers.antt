@@ -6,8 +6,8 @@ use Rattle.scr.proofs.Entering.{opens, run_refused, run_kept}
 use Rattle.scr.proofs.Demanded.{run_demand, demand_3}
 use Rattle.scr.proofs.run.Goals as goal
 
-pub index-requires : goal.index-requires
-index-requires c = opens _ _ c.read_set.ensures _ c.in_ok-opened.was
+pub new-requires : goal.new-requires
+new-requires c = opens _ _ c.read_set.ensures _ c.in_ok-opened.was
 
 pub returns-in_err-opened : goal.returns-in_err-opened
 returns-in_err-opened c =
@@ -18,6 +18,6 @@ returns-in_err-opened c =
 
 pub returns : goal.returns
 returns c =
-    let v = rw c.index.ensures.words_value at c.run.ensures.result_value in
-    let k = rw c.index.ensures.words_value at c.run.ensures.trace_after in
+    let v = rw c.new.ensures at c.run.ensures.result_value in
+    let k = rw c.new.ensures at c.run.ensures.trace_after in
     record { result_value = v; trace_after = k; run_answers = run_demand _ _ _ _ _ _ _ v k; demand3 = demand_3 _ _ _ _ _ _ _ v k }

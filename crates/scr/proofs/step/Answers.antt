@@ -6,8 +6,8 @@ use Rattle.scr.proofs.Entering.{opens, step_refused}
 use Rattle.scr.proofs.Demanded.{step_demand, steps_exactly}
 use Rattle.scr.proofs.step.Goals as goal
 
-pub index-requires : goal.index-requires
-index-requires c = opens _ _ c.read_set.ensures _ c.in_ok-opened.was
+pub new-requires : goal.new-requires
+new-requires c = opens _ _ c.read_set.ensures _ c.in_ok-opened.was
 
 pub returns-in_err-opened : goal.returns-in_err-opened
 returns-in_err-opened c =
@@ -17,5 +17,5 @@ returns-in_err-opened c =
 
 pub returns : goal.returns
 returns c =
-    let v = rw c.index.ensures.words_value at c.step.ensures in
+    let v = rw c.new.ensures at c.step.ensures in
     record { result_value = v; answers_or_refuses = step_demand _ _ _ _ v; steps_exactly = steps_exactly _ _ _ _ v }

@@ -6,8 +6,8 @@ use Rattle.scr.proofs.Entering.{opens, values_refused, kept_refused}
 use Rattle.scr.proofs.Demanded.{values_demand, values_shown}
 use Rattle.scr.proofs.values.Goals as goal
 
-pub index-requires : goal.index-requires
-index-requires c = opens _ _ c.read_set.ensures _ c.in_ok-opened.was
+pub new-requires : goal.new-requires
+new-requires c = opens _ _ c.read_set.ensures _ c.in_ok-opened.was
 
 pub returns-in_err-opened : goal.returns-in_err-opened
 returns-in_err-opened c =
@@ -18,6 +18,6 @@ returns-in_err-opened c =
 
 pub returns : goal.returns
 returns c =
-    let v = rw c.index.ensures.words_value at c.values.ensures.result_value in
-    let k = rw c.index.ensures.words_value at c.values.ensures.out_after in
+    let v = rw c.new.ensures at c.values.ensures.result_value in
+    let k = rw c.new.ensures at c.values.ensures.out_after in
     record { result_value = v; out_after = k; answers_or_refuses = values_demand _ _ _ _ v; values_exactly = values_shown _ _ _ _ _ v k }

@@ -1,6 +1,6 @@
 use Rattle.std.proofs.lemmas.Result.{err_from_is_err_and}
 use Rattle.scr.proofs.Performing.{performed_last, performed_stopped, performed_written}
-use Rattle.scr.proofs.runs.perform.Goals as goal
+use Rattle.scr.proofs.reading.Reading.perform.Goals as goal
 
 pub returns-in_err-run_events : goal.returns-in_err-run_events
 returns-in_err-run_events c =

@@ -1,9 +1,9 @@
 use Rattle.std.proofs.lemmas.Result.{err_from_is_err_and}
 use Rattle.scr.proofs.Calling.{step_no_state, step_done, step_refused}
-use Rattle.scr.proofs.stepping.step.Goals as goal
+use Rattle.scr.proofs.reading.Reading.step.Goals as goal
 
-pub returns-then-extent-s : goal.returns-then-extent-s
-returns-then-extent-s c = search step_no_state
+pub returns-then-self-s : goal.returns-then-self-s
+returns-then-self-s c = search step_no_state
 
 pub returns-in_err-step_from : goal.returns-in_err-step_from
 returns-in_err-step_from c =
