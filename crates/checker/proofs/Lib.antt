@@ -1,4 +1,5 @@
 pub mod Laws
+pub mod OneProof
 pub mod Skipping
 pub mod Asserted
 pub mod Tracking
