@@ -53,11 +53,7 @@ pub fn read_tables(words: &[u32], found: &mut Found) -> Result<usize, Fault>
         if kind(w) != Kind::Table as u32 {
             return Ok(on);
         }
-        let set = Variables {
-            words,
-            places: &found.places,
-            count: n,
-        };
+        let set = found.variables(words);
         let next = read_table(&set, on, before)?;
         let v = defined(w) as usize;
         found.places[v] = on + 1;
@@ -68,11 +64,7 @@ pub fn read_tables(words: &[u32], found: &mut Found) -> Result<usize, Fault>
     if kind(w) != Kind::Table as u32 {
         return Ok(on);
     }
-    let set = Variables {
-        words,
-        places: &found.places,
-        count: n,
-    };
+    let set = found.variables(words);
     read_table(&set, on, before)?;
     Err(Fault::Fit(on))
 }
