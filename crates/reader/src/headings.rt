@@ -1,4 +1,4 @@
-// What a table word says to the reader of its rows.
+// What a table word says to the reader of its rows. Truths are joined by `&` and `|` as in the tests of one word, and for the same reason.
 ghost use Rattle.std.specs.Prelude.{ℕ, ◌≡◌};
 ghost use Rattle.meaning.specs.Reading as R;
 ghost use Rattle.reader.specs.Known.{known};

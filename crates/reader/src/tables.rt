@@ -24,6 +24,7 @@ fn read_table(set: &Variables, at: usize, before: usize) -> Result<usize, Fault>
     first_word(set.words, at, 1, |w| fits_kind(w, Kind::Table))?;
     let heading = read_heading(set, at)?;
     let free = set.place_of(heading.variable) == 0;
+    // Both in one truth: with `&&` what comes after knows of them only by the way that led there, and the laws of what comes after were not found to apply.
     if !(heading_fits(set, heading) & free) {
         return Err(Fault::Fit(at));
     }
