@@ -34,22 +34,21 @@ module _ (ws : List ℕ) (vs : List Variable) (l at : ℕ) (r : Result ℕ Fault
   assertion_stops q e = let h : reached (Err q) ≡ reach (first_said r >>> after) = rw e in h ∙ assertion_begins
 
   -- whether its type has a name
-  module _ (w s : ℕ) (e : r ≡ Ok w) (es : s ≡ W.sort w) (a : Result AssertionType Unnamed) (ea : IsAssertionType s a)
-      (b : Bool) (eb : is_ok a ≡ not b) where
-    typed : (c : Bool) → not b ≡ c → eqb (W.sort w) 1 ≡ c
-    typed c h = rw (← es) (sym ea.0 ∙ eb ∙ h)
+  module _ (w s : ℕ) (e : r ≡ Ok w) (es : s ≡ W.sort w) (a : Result AssertionType Unnamed) (ea : IsAssertionType s a) where
+    typed : (c : Bool) → is_ok a ≡ c → eqb (W.sort w) 1 ≡ c
+    typed c h = rw (← es) (sym ea.0 ∙ h)
 
-    pub assertion_range : b ≡ true → reached (Err (Range at)) ≡ reach (read_assertion ws vs l at)
+    pub assertion_range : (u : Unnamed) → a ≡ Err u → reached (Err (Range at)) ≡ reach (read_assertion ws vs l at)
     unfolding first_said reached refusal carried reach
-    assertion_range n =
-        let h : reached (Err (Range at)) ≡ reach (first_said r >>> after) = rw (e, typed false (rw n)) in
+    assertion_range u n =
+        let h : reached (Err (Range at)) ≡ reach (first_said r >>> after) = rw (e, typed false (rw n refl)) in
         h ∙ assertion_begins
 
-    pub assertion_on : (c : Result ℕ Fault) → b ≡ false → reached c ≡ reach (read_condition ws vs Max.max_depth (at + 1))
+    pub assertion_on : (t : AssertionType) (c : Result ℕ Fault) → a ≡ Ok t → reached c ≡ reach (read_condition ws vs Max.max_depth (at + 1))
         → reached c ≡ reach (read_assertion ws vs l at)
     unfolding first_said
-    assertion_on c n ec =
-        let h : reach (read_condition ws vs Max.max_depth (suc at)) ≡ reach (first_said r >>> after) = rw (e, typed true (rw n)) in
+    assertion_on t c n ec =
+        let h : reach (read_condition ws vs Max.max_depth (suc at)) ≡ reach (first_said r >>> after) = rw (e, typed true (rw n refl)) in
         ec ∙ rw (add-one at) h ∙ assertion_begins
 
 pub ruleset assertion_laws = (assertion_stops, assertion_range, assertion_on)

@@ -19,9 +19,7 @@ fn read_assertion(set: &Variables, left: usize, at: usize) -> Result<usize, Faul
     ensures { reached result ≡ reach (R.read_assertion set.now.words.now (known set.now) left at) }
 {
     let w = first_word(set.words, at, left, |w| fits_kind(w, Kind::Assertion))?;
-    if AssertionType::try_from(sort(w)).is_err() {
-        return Err(Fault::Range(at));
-    }
+    AssertionType::try_from(sort(w)).map_err(|_| Fault::Range(at))?;
     read_condition(set, at + 1, MAX_DEPTH)
 }
 

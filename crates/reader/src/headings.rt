@@ -1,4 +1,4 @@
-// What a table word says to the reader of its rows.
+// What a table word says to the reader of its rows. Truths are joined by `&` and `|` as in the tests of one word, and for the same reason.
 ghost use Rattle.std.specs.Prelude.{ℕ, ◌≡◌};
 ghost use Rattle.meaning.specs.Reading as R;
 ghost use Rattle.reader.specs.Known.{known};
@@ -24,19 +24,15 @@ pub fn read_heading(set: &Variables, at: usize) -> Result<Heading, Fault>
     let w = word_at(set.words, at);
     let v = defined(w) as usize;
     let m = class_read(w) as usize;
-    match TableType::try_from(sort(w)) {
-        Ok(table_type) => {
-            if (v < set.count) & ((m == NO_CLASS) | (m < set.count)) {
-                return Ok(Heading {
-                    table_type,
-                    variable: v,
-                    class_read: m,
-                });
-            }
-            Err(Fault::Range(at))
-        }
-        Err(_) => Err(Fault::Range(at)),
+    let table_type = TableType::try_from(sort(w)).map_err(|_| Fault::Range(at))?;
+    if (v < set.count) & ((m == NO_CLASS) | (m < set.count)) {
+        return Ok(Heading {
+            table_type,
+            variable: v,
+            class_read: m,
+        });
     }
+    Err(Fault::Range(at))
 }
 
 // Do its type and the class that it reads suit the variable that it defines?

@@ -14,7 +14,8 @@ use crate::tests::{fits_kind, row_ok};
 use index::{Variables, word_at};
 use word::{Kind, MAX_DEPTH, MAX_ROWS, TableType, kind};
 
-// The formula of a row.
+// The formula of a row. Each row asks for the type of its table, which could be asked once a table: but then a closure for the formula would go through read_rows, which reads rows at
+// two places, and read_row, with a contract over the closure for each, and in place of these two arms there would be two calls of read_rows.
 #[tactic(auto, using(crate::proofs::RowLaws::formula_laws))]
 fn read_formula(set: &Variables, table_type: TableType, at: usize) -> Result<usize, Fault>
     ensures { reached result ≡ formula_reach set.now.words.now (known set.now) (table_type_number table_type) at }

@@ -24,6 +24,7 @@ fn read_table(set: &Variables, at: usize, before: usize) -> Result<usize, Fault>
     first_word(set.words, at, 1, |w| fits_kind(w, Kind::Table))?;
     let heading = read_heading(set, at)?;
     let free = set.place_of(heading.variable) == 0;
+    // Both in one truth: with `&&` what comes after knows of them only by the way that led there, and the laws of what comes after were not found to apply.
     if !(heading_fits(set, heading) & free) {
         return Err(Fault::Fit(at));
     }
@@ -53,11 +54,7 @@ pub fn read_tables(words: &[u32], found: &mut Found) -> Result<usize, Fault>
         if kind(w) != Kind::Table as u32 {
             return Ok(on);
         }
-        let set = Variables {
-            words,
-            places: &found.places,
-            count: n,
-        };
+        let set = found.variables(words);
         let next = read_table(&set, on, before)?;
         let v = defined(w) as usize;
         found.places[v] = on + 1;
@@ -68,11 +65,7 @@ pub fn read_tables(words: &[u32], found: &mut Found) -> Result<usize, Fault>
     if kind(w) != Kind::Table as u32 {
         return Ok(on);
     }
-    let set = Variables {
-        words,
-        places: &found.places,
-        count: n,
-    };
+    let set = found.variables(words);
     read_table(&set, on, before)?;
     Err(Fault::Fit(on))
 }

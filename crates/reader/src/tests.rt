@@ -1,4 +1,6 @@
 // Tests of one word. Of one word 2 is tested first, then 4, then 3, then 5; of a table word also 21, after those.
+// Truths are joined by `&` and `|`, so that a test is one value and what it promises one equation. With `&&` and `||` each part is a way out of its own, and none of these was proved
+// from the law of the whole.
 ghost use Rattle.std.specs.Prelude.{◌≡◌, [], ◌∷◌};
 ghost use Rattle.word.specs.Kinds.{kind_number};
 ghost use Rattle.meaning.specs.Reading as R;

@@ -7,7 +7,6 @@ mod opened; // a set that is
 ghost use Rattle.set.specs.ReadSet.{SetAs};
 
 pub use faults::Fault;
-use index::Variables;
 pub use opened::Opened;
 use order::order_tables;
 use reader::read_typed;
@@ -19,11 +18,7 @@ pub fn read_set(words: &[u32]) -> Result<Opened, Fault>
     ensures { SetAs words.now result }
 {
     let typed = read_typed(words)?;
-    let set = Variables {
-        words,
-        places: &typed.places,
-        count: typed.extent.variables,
-    };
+    let set = typed.variables(words);
     let mut order = [0; MAX_VARIABLES];
     order_tables(&set, &mut order)?;
     let places = typed.places;
