@@ -10,10 +10,9 @@ use arrayvec::ArrayVec;
 fn word_of(bytes: &[u8]) -> u32
     ensures { result ≡ input_word bytes.now 0 }
 {
-    match bytes.first_chunk::<4>() {
-        Some(four) => u32::from_le_bytes(*four),
-        None => 0,
-    }
+    bytes
+        .first_chunk::<4>()
+        .map_or(0, |four| u32::from_le_bytes(*four))
 }
 
 // The words that are looked at, a broken last one among them.

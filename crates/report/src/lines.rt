@@ -44,7 +44,7 @@ pub fn put_pass<const N: usize>(text: &mut ArrayVec<u8, N>, c: Counts)
     ensures upper_bound { array_vec_len text.new ≤ array_vec_len text.old + Room.line }
 {
     put(text, b"PASS");
-    put_fields(text, &[c.states as u64, c.steps, c.assertions as u64]);
+    put_fields(text, &[u64::from(c.states), c.steps, c.assertions as u64]);
 }
 
 // The number of the refusal, then what it carries.
@@ -56,7 +56,7 @@ pub fn put_refusal<const N: usize>(text: &mut ArrayVec<u8, N>, q: Refusal)
     let told = tell(q);
     let carried = told.carried;
     put(text, b"REFUSE");
-    put_field(text, told.number as u64);
+    put_field(text, u64::from(told.number));
     put_fields(text, &carried[..told.count]);
 }
 
@@ -70,7 +70,10 @@ fn put_event<const N: usize>(text: &mut ArrayVec<u8, N>, events: &[u32], i: usiz
 {
     let w = word_at(events, i);
     put_number(text, i as u64);
-    put_fields(text, &[variable(w) as u64, value(w) as u64, s as u64]);
+    put_fields(
+        text,
+        &[u64::from(variable(w)), u64::from(value(w)), u64::from(s)],
+    );
 }
 
 // A line for each state reached.
@@ -80,6 +83,7 @@ pub fn put_events<const N: usize>(text: &mut ArrayVec<u8, N>, events: &[u32], st
     ensures upper_bound { array_vec_len text.new ≤ array_vec_len text.old + length states.now * Room.event }
     ensures short { length states.now ≤ Max.max_events → array_vec_len text.new ≤ array_vec_len text.old + length states.now * Room.short_event }
 {
+    // A state beyond the events has its line too, with the word 0, so the two lists are not gone through in pairs: pairs end with the shorter list.
     for (i, s) in states.iter().enumerate() {
         put_event(text, events, i, *s);
     }

@@ -1,4 +1,5 @@
 // Bytes and decimal numbers, written at the end of a text: a list of bytes with room for so many, as there is no heap. Each function asks for the room that it needs.
+// `write!` is not used: what it promises holds where it ends well, and it doesn't say that it does where there is room. Every byte is promised here.
 ghost use Rattle.std.specs.Prelude.{◌≡◌, ℕ, ◌+◌, ◌≤◌, ◌++◌, length};
 ghost use Rattle.arrayvec.specs.ArrayVec.{array_vec_len};
 ghost use Rattle.meaning.specs.Program.{decimal};

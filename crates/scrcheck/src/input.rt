@@ -13,6 +13,7 @@ pub fn read_to_end<R: Read>(reader: &mut R, bytes: &mut [u8]) -> io::Result<usiz
     ensures ended { IfOk result (λ n. n < length bytes.new → IsAtEnd (R.remaining reader.new)) }
 {
     let mut done = 0;
+    // A loop is to have an end, and reads that are interrupted again and again have none: so many tries are more than ever happen.
     for _ in 0..u64::MAX {
         if bytes.len() <= done {
             return Ok(done);

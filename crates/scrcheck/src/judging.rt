@@ -2,9 +2,10 @@
 ghost use Rattle.scrcheck.specs.Prints.{Judges};
 
 use crate::input::read_to_end;
+use std::io;
 use std::io::{Read, Write};
 use std::process::ExitCode;
-use std::{fmt, io};
+use thiserror::Error;
 
 // How the program ends: all is done; the set is refused; there is no verdict, or not all of it; the set passes, but not all events are done. The number is
 // the exit status.
@@ -23,32 +24,16 @@ impl From<Status> for ExitCode {
 }
 
 // Why there is no verdict, or not all of it.
-#[derive(Drop)]
+#[derive(Debug, Drop, Error)]
 pub enum Fault {
+    #[error("standard input can't be read to its end: no verdict ({0})")]
     Input(io::Error),
+    #[error("standard output can't be written: the verdict is not complete ({0})")]
     Output(io::Error),
 }
 
-impl fmt::Display for Fault {
-    fn fmt<W: fmt::Write>(&self, f: &mut fmt::Formatter<W>) -> fmt::Result {
-        match self {
-            Fault::Input(fault) => {
-                write!(
-                    f,
-                    "standard input can't be read to its end: no verdict ({fault})"
-                )
-            }
-            Fault::Output(fault) => {
-                write!(
-                    f,
-                    "standard output can't be written: the verdict is not complete ({fault})"
-                )
-            }
-        }
-    }
-}
-
-// By what is printed: only PASS has a P, and only REFUSE has an R.
+// By what is printed: only PASS has a P, and only REFUSE has an R. `report` hands out the text and its length, and what it promises speaks of the text: to
+// carry the verdict besides it would be a second answer, of which it would have to be shown that it says the same.
 fn status_of(text: &[u8]) -> Status {
     if !text.contains(&b'P') {
         Status::Refused

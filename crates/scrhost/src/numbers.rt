@@ -6,7 +6,8 @@ ghost use Rattle.scr.specs.Answers.{answer_says, verdict_says};
 use scr::telling::tell;
 use scr::{Counts, Refusal};
 
-// The C interface answers by number, so these two are no enum.
+// The C interface answers by number, so these two are no enum. What is made of an answer is a match below: `map_or_else` takes the refusal first and then
+// the pass, and is no shorter.
 // Added to the number of a refused step: no state has so high a number.
 pub const REFUSED: u32 = 2147483648;
 

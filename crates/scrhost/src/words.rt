@@ -15,6 +15,8 @@ pub fn words_of<'a>(bytes: &[u8], room: &'a mut [u32; MAX_WORDS]) -> Option<&'a 
     if !rest.is_empty() || MAX_WORDS < fours.len() {
         return None;
     }
+    // By place, so that the loop can say what stands at the front of the room so far: with `room.iter_mut().zip(fours)` the room is known again only after it,
+    // by the pairs that were handed out.
     for (i, four) in fours.iter().enumerate() {
         room[i] = u32::from_le_bytes(*four);
     }

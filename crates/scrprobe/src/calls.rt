@@ -24,6 +24,7 @@ pub enum Entry {
 #[derive(Clone, Copy)]
 pub struct UnknownEntry(pub u32);
 
+// One arm for each name: an impl that a macro of this repository wrote would be refused.
 impl TryFrom<u32> for Entry {
     type Error = UnknownEntry;
 
@@ -74,8 +75,9 @@ pub fn rows<W: Write>(set: &[u32], variable: u32, out: &mut W) -> io::Result<()>
     if part.is_empty() {
         return writeln!(out, "ROWS 0 0");
     }
-    let place = (0..set.len())
-        .find(|at| set[*at..].starts_with(part))
+    let place = set
+        .windows(part.len())
+        .position(|window| window == part)
         .unwrap_or(set.len());
     writeln!(out, "ROWS {place} {}", part.len())
 }

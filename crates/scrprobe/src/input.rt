@@ -20,29 +20,19 @@ pub struct Input {
 // Lowest byte first. Bytes that are missing count as zeros.
 fn word_of(bytes: &[u8]) -> u32 {
     let mut word = [0u8; 4];
-    for (to, from) in word.iter_mut().zip(bytes) {
-        *to = *from;
-    }
+    let n = bytes.len().min(4);
+    word[..n].copy_from_slice(&bytes[..n]);
     u32::from_le_bytes(word)
 }
 
 impl Input {
     pub fn new(alloc: Global, bytes: &[u8]) -> Result<Input, AllocError> {
-        let mut words = Vec::new(alloc);
-        for word in bytes.chunks(4) {
-            words.push(word_of(word))?;
-        }
+        let words: Vec<u32> = bytes.chunks(4).map(word_of).collect(alloc)?;
         let n = words.get(1).copied().unwrap_or(0) as usize;
         let n = n.min(MAX_TAKEN);
-        let mut set = Vec::new(alloc);
-        for word in words.iter().skip(2).take(n) {
-            set.push(*word)?;
-        }
+        let mut set: Vec<u32> = words.iter().skip(2).take(n).copied().collect(alloc)?;
         set.resize(n, 0)?;
-        let mut behind = Vec::new(alloc);
-        for word in words.iter().skip(2 + n) {
-            behind.push(*word)?;
-        }
+        let behind = words.iter().skip(2 + n).copied().collect(alloc)?;
         Ok(Input {
             entry: words.first().copied().unwrap_or(0),
             set,

@@ -21,6 +21,7 @@ pub fn answer<W: Write, T: Display + Copy>(
     }
 }
 
+// Apart from `answer`, since counts are not printed by themselves: a type around them, only to print them here, would be longer than these arms.
 pub fn verdict<W: Write>(out: &mut W, answer: Result<Counts, Refusal>) -> io::Result<()> {
     match answer {
         Ok(counts) => writeln!(
