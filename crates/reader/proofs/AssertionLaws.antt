@@ -1,5 +1,5 @@
 -- Laws of read_assertion and read_assertions, one for each way out.
-use Rattle.std.specs.Prelude.{◌≡◌, refl, Bool, true, false, not, List, [], ◌∷◌, ℕ, zero, suc, ◌+◌, ◌-◌, ◌≤◌, ◌<◌, eqb, leb, length, Result, Ok, Err, is_ok}
+use Rattle.std.specs.Prelude.{◌≡◌, refl, Bool, true, false, List, [], ◌∷◌, ℕ, zero, suc, ◌+◌, ◌-◌, ◌≤◌, ◌<◌, eqb, leb, length, Result, Ok, Err, is_ok}
 use Rattle.std.proofs.Common.{sym, ap, ◌∙◌, arith, add-one, le-leb}
 use Rattle.std.proofs.lemmas.Bool.{lt-leb}
 use Rattle.word.specs.Fields as W

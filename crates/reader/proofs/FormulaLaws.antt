@@ -1,5 +1,5 @@
 -- Laws of read_condition, read_change and read_event, one for each way out.
-use Rattle.std.specs.Prelude.{◌≡◌, refl, Bool, true, false, not, List, ℕ, zero, suc, ◌+◌, ◌-◌, ◌≤◌, ltb, Result, Ok, Err, is_ok}
+use Rattle.std.specs.Prelude.{◌≡◌, refl, Bool, true, false, List, ℕ, zero, suc, ◌+◌, ◌-◌, ltb, Result, Ok, Err, is_ok}
 use Rattle.std.proofs.Common.{sym, ap, ◌∙◌, arith, sub-one, add-one, ne_eqb, lt-ltb}
 use Rattle.word.specs.Fields as W
 use Rattle.word.specs.Kinds.{IsChange}
@@ -9,7 +9,7 @@ use Rattle.meaning.specs.Answers.{◌>>>◌, expect}
 use Rattle.meaning.specs.Searches.{within}
 use Rattle.meaning.specs.Syntax.{Variable}
 use Rattle.meaning.specs.Reading.{test_ok, condition_kinds, event_kinds, condition_by, event_by, word_at, read_condition, read_event}
-use Rattle.index.specs.Places.{Refused, Reached, reach, then_at}
+use Rattle.index.specs.Places.{Reached, reach, then_at}
 use Rattle.reader.specs.declared.faults.Fault.{Fault}
 use Rattle.reader.specs.declared.faults.Fault.TheVariants.{Range}
 use Rattle.reader.specs.Faults.{refusal, carried, reached}

@@ -2,7 +2,7 @@ use Rattle.std.proofs.Common.{refl, rules}
 use Rattle.std.proofs.lemmas.Result.{err_from_is_err_and}
 use Rattle.meaning.specs.Searches.{mem}
 use Rattle.meaning.specs.Reading.{event_kinds}
-use Rattle.reader.proofs.FormulaLaws.{events, event_first, event_stop, event_both, event_sort, event_change, event_never, event_true}
+use Rattle.reader.proofs.FormulaLaws.{event_first, event_stop, event_both, event_sort, event_change, event_never, event_true}
 use Rattle.reader.proofs.formulas.+read_event.Goals as goal
 
 pub returns-in_err-w : goal.returns-in_err-w
