@@ -1,17 +1,19 @@
 -- The order of a table word's refusals, 2, 4, 3 and 5, as laws of the definitions alone: what reading a table answers, by the number of the first test
 -- that its word fails. The code tests a word where it reads it and has no such number, so that none of its proofs goes through these.
-use Rattle.std.specs.Prelude.{◌≡◌, refl, Bool, true, false, not, ◌&&◌, List, [], ◌∷◌, ℕ, suc, ◌≤◌, ◌<◌, eqb, length, get_or}
-use Rattle.std.proofs.Common.{sym, ap, ◌∙◌, arith, lt-ltb, le-ltb}
+use Rattle.std.specs.Prelude.{◌≡◌, refl, Bool, true, false, not, ◌&&◌, List, [], ◌∷◌, ℕ, suc, ◌+◌, ◌≤◌, ◌<◌, eqb, length, get_or}
+use Rattle.std.proofs.Common.{sym, ap, ◌∙◌, arith, add-one, lt-ltb, le-ltb}
 use Rattle.word.specs.Fields as W
+use Rattle.word.specs.Limits as Max
 use Rattle.meaning.specs.Answers.{◌>>>◌, expect}
 use Rattle.meaning.specs.Searches.{mem}
 use Rattle.meaning.specs.Syntax.{Variable, Table}
 use Rattle.meaning.specs.Reading.{Read, word, fits, table_ok, table_fits, read_body, read_table}
 use Rattle.theory.specs.Readers.{word_then}
-use Rattle.index.specs.Places.{Refused, reach}
-use Rattle.reader.specs.Formulas.{fault_of}
+use Rattle.index.specs.Places.{Reached, Refused, reach}
+use Rattle.reader.specs.Formulas.{fault_of, rows_reach}
 use Rattle.reader.specs.Tables.{is_placed, next_place}
 use Rattle.reader.proofs.TestLaws.{kind_past}
+use Rattle.reader.proofs.TableLaws.{body_reach}
 
 -- the four tests of a word, then m
 abbrev pub tested : {A : Type 0} → Bool → Bool → Bool → Bool → ℕ → Read A → Read A
@@ -82,3 +84,10 @@ module _ (ws : List ℕ) (vs : List Variable) (at : ℕ) (ps : List ℕ) (before
     pub table_lower : k ≡ 0 → v < before → Refused 21 at ≡ reach (next_place ws vs at ps before)
     unfolding next_place
     table_lower z h = out_of_order ws vs at _ _ k found z (rw (← defines) (lt-ltb v before h))
+
+    pub table_on : (t m : ℕ) (r : Reached) → k ≡ 0 → before ≤ v → t ≡ W.sort w → m ≡ W.class_read w
+        → r ≡ rows_reach ws vs t v m Max.max_rows (at + 1)
+        → r ≡ reach (next_place ws vs at ps before)
+    unfolding next_place
+    table_on t m r z h et em er =
+        er ∙ rw (et, ev, em, ew, add-one at) (body_reach ws vs (word ws at) (suc at)) ∙ table_passed ws vs at _ _ k found z (rw (← defines) (le-ltb v before h))
