@@ -85,9 +85,9 @@ module _ (ws : List ℕ) where
 
     -- ---- the same of the answers of the code
     module _ (v : Result Found Fault) (hv : VariablesAs ws v) where
-      pub variables_wrong : (q : Fault) → v ≡ Err q → ReadAs ws (Err q)
+      pub words_variables : (q : Fault) → v ≡ Err q → ReadAs ws (Err q)
       unfolding ReadAs read_words parsed VariablesAs
-      variables_wrong q e = rw (fit, rw e at hv)
+      words_variables q e = rw (fit, rw e at hv)
 
       -- p are the variables as they were found, f is what has been found behind the tables
       module _ (p f : Found) (ep : v ≡ Ok p) (t : Result ℕ Fault)
@@ -114,4 +114,4 @@ module _ (ws : List ℕ) where
               let r = words_all p.places f.places p.count p.count read (reached t) et a (ap reached ea) (reached s) kept (rw en at es) j (ap reached g) in
               (r.0, subst (λ (n : ℕ). Indexed ws r.0 n a f.places) (sym en) r.1)
 
-pub ruleset words_laws = (words_none, words_over, variables_wrong, tables_wrong, assertions_wrong, all_read)
+pub ruleset words_laws = (words_none, words_over, words_variables, tables_wrong, assertions_wrong, all_read)
