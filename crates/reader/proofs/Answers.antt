@@ -5,7 +5,7 @@ use Rattle.meaning.specs.Answers.{fine, stop, ◌>>>◌}
 use Rattle.meaning.specs.Reading.{Read}
 use Rattle.index.specs.Places.{Reached, Next, Refused, reach, then_at}
 use Rattle.reader.specs.declared.faults.Fault.{Fault}
-use Rattle.reader.specs.Faults.{refusal, carried, reached}
+use Rattle.reader.specs.Faults.{reached}
 
 pub then_reach : {A B : Type 0} (m : Read A) (f : A × ℕ → Read B) (rec : ℕ → Reached)
     → ((p : A × ℕ) → reach (f p) ≡ rec p.1) → reach (m >>> f) ≡ then_at (reach m) rec
@@ -39,12 +39,12 @@ refused_not_next e = let z : ◌≡◌ {A = ℕ} 0 1 = cc in omega arith
 pub next_same : {i j : ℕ} → ◌≡◌ {A = Reached} (Next i) (Next j) → i ≡ j
 next_same e = cc
 
-pub reach_stop : {A : Type 0} (m : Read A) (q : Fault) → reach m ≡ reached (Err q) → m ≡ stop (refusal q) (carried q)
-unfolding reach reached
-reach_stop (fine p) q e = absurd (refused_not_next (sym e))
-reach_stop (stop l j) q e = let p : l ≡ refusal q = cc in let x : j ≡ carried q = cc in rw (p, x)
+pub reach_stop : {A : Type 0} (m : Read A) (k i : ℕ) → reach m ≡ Refused k i → m ≡ stop k i
+unfolding reach
+reach_stop (fine p) k i e = absurd (refused_not_next (sym e))
+reach_stop (stop l j) k i e = let p : l ≡ k = cc in let q : j ≡ i = cc in rw (p, q)
 
-pub reach_fine : {A : Type 0} (m : Read A) (j : ℕ) → reach m ≡ reached (Ok j) → (a : A) × (m ≡ fine (a, j))
-unfolding reach reached
+pub reach_fine : {A : Type 0} (m : Read A) (j : ℕ) → reach m ≡ Next j → (a : A) × (m ≡ fine (a, j))
+unfolding reach
 reach_fine (fine p) j e = (p.0, ap (λ (x : ℕ). fine (p.0, x)) (next_same e))
 reach_fine (stop l i) j e = absurd (refused_not_next e)

@@ -9,7 +9,7 @@ use Rattle.meaning.specs.Answers.{◌>>>◌, expect}
 use Rattle.meaning.specs.Searches.{within}
 use Rattle.meaning.specs.Syntax.{Variable}
 use Rattle.meaning.specs.Reading.{test_ok, condition_kinds, event_kinds, condition_by, event_by, word_at, read_condition, read_event}
-use Rattle.index.specs.Places.{Reached, reach, then_at}
+use Rattle.index.specs.Places.{Reached, Refused, reach, then_at}
 use Rattle.reader.specs.declared.faults.Fault.{Fault}
 use Rattle.reader.specs.declared.faults.Fault.TheVariants.{Range}
 use Rattle.reader.specs.Faults.{refusal, carried, reached}
@@ -58,29 +58,35 @@ module _ (ws : List ℕ) (vs : List Variable) (n at : ℕ) (r : Result ℕ Fault
         unfolding condition_by reach reached
         condition_constant n4 = arm _ (rw (← eo, ne_eqb o 2 n2, ne_eqb o 1 n1, ← ek, ne_eqb k 4 n4, add-one at))
 
-      pub condition_not : (a : Result ℕ Fault) → o ≡ 1 → reached a ≡ reach (read_condition ws vs (n - 1) (at + 1))
-          → reached a ≡ reach (read_condition ws vs n at)
+      pub condition_not : (a : Reached) → o ≡ 1 → a ≡ reach (read_condition ws vs (n - 1) (at + 1))
+          → a ≡ reach (read_condition ws vs n at)
       unfolding condition_by
       condition_not a e1 ea =
           arm _ (rw (← eo, e1) (ea ∙ rw (add-one at) (sym (made_reach (read_condition ws vs (n - 1) (suc at)) _))))
 
       module _ (e2 : o ≡ 2) where
-        two : (a : Result ℕ Fault) → reached a ≡ reach (read_condition ws vs (n - 1) (at + 1)) → (r : Reached) → r ≡ then_at (reached a) (λ j. reach (read_condition ws vs (n - 1) j)) → r ≡ reach (read_condition ws vs n at)
+        two : (a : Reached) → a ≡ reach (read_condition ws vs (n - 1) (at + 1)) → (r : Reached) → r ≡ then_at a (λ j. reach (read_condition ws vs (n - 1) j)) → r ≡ reach (read_condition ws vs n at)
         unfolding condition_by
         two a ea r er =
             arm r
             (rw (← eo, e2)
             (er ∙ rw (ea, add-one at) (sym (two_reach (read_condition ws vs (n - 1) (suc at)) (read_condition ws vs (n - 1)) _))))
 
-        pub condition_both : (b : Result ℕ Fault) (j : ℕ) → reached (Ok j) ≡ reach (read_condition ws vs (n - 1) (at + 1)) → reached b ≡ reach (read_condition ws vs (n - 1) j)
-            → reached b ≡ reach (read_condition ws vs n at)
-        condition_both b j ea eb = two (Ok j) ea _ (then_next (Ok j) _ _ j refl eb)
+        pub condition_both : (b : Reached) (j : ℕ) → reached (Ok j) ≡ reach (read_condition ws vs (n - 1) (at + 1)) → b ≡ reach (read_condition ws vs (n - 1) j)
+            → b ≡ reach (read_condition ws vs n at)
+        condition_both b j ea eb = two (reached (Ok j)) ea _ (then_next (Ok j) _ _ j refl eb)
 
-        pub condition_stop : (q : Fault) → reached (Err q) ≡ reach (read_condition ws vs (n - 1) (at + 1)) → reached (Err q) ≡ reach (read_condition ws vs n at)
-        condition_stop q ea = two (Err q) ea _ (then_stop (Err q) _ q refl)
+        pub condition_stop : (q i : ℕ) → Refused q i ≡ reach (read_condition ws vs (n - 1) (at + 1)) → Refused q i ≡ reach (read_condition ws vs n at)
+        unfolding then_at
+        condition_stop q i ea = two (Refused q i) ea _ refl
+
+        -- of a fault of the code
+        pub condition_fault : (q : Fault) → reached (Err q) ≡ reach (read_condition ws vs (n - 1) (at + 1)) → reached (Err q) ≡ reach (read_condition ws vs n at)
+        unfolding reached
+        condition_fault q ea = condition_stop (refusal q) (carried q) ea
 
 pub ruleset conditions =
-    (condition_first, condition_test, condition_range, condition_constant, condition_not, condition_both, condition_stop)
+    (condition_first, condition_test, condition_range, condition_constant, condition_not, condition_both, condition_fault)
 
 -- ---- the two conditions of a change
 module _ (ws : List ℕ) (vs : List Variable) (n at : ℕ) where
@@ -128,33 +134,51 @@ module _ (ws : List ℕ) (vs : List Variable) (n at : ℕ) (r : Result ℕ Fault
       event_true v n2 ev z = event_arm _ (rw (← eo, ne_eqb o 2 n2, ← ev, ne_eqb v 0 z))
 
       module _ (k : ℕ) (e2 : o ≡ 2) (ek : k ≡ W.kind w) (e7 : k ≡ 7) where
-        two_events : (a : Result ℕ Fault) → reached a ≡ reach (read_event ws vs (n - 1) (at + 1)) → (r : Reached) → r ≡ then_at (reached a) (λ j. reach (read_event ws vs (n - 1) j)) → r ≡ reach (read_event ws vs n at)
+        two_events : (a : Reached) → a ≡ reach (read_event ws vs (n - 1) (at + 1)) → (r : Reached) → r ≡ then_at a (λ j. reach (read_event ws vs (n - 1) j)) → r ≡ reach (read_event ws vs n at)
         unfolding event_by
         two_events a ea r er =
             event_arm r
             (rw (← eo, e2, ← ek, e7) (er ∙ rw (ea, add-one at) (sym (two_reach (read_event ws vs (n - 1) (suc at)) (read_event ws vs (n - 1)) _))))
 
-        pub event_both : (b : Result ℕ Fault) (j : ℕ) → reached (Ok j) ≡ reach (read_event ws vs (n - 1) (at + 1)) → reached b ≡ reach (read_event ws vs (n - 1) j)
-            → reached b ≡ reach (read_event ws vs n at)
-        event_both b j ea eb = two_events (Ok j) ea _ (then_next (Ok j) _ _ j refl eb)
+        pub event_both : (b : Reached) (j : ℕ) → reached (Ok j) ≡ reach (read_event ws vs (n - 1) (at + 1)) → b ≡ reach (read_event ws vs (n - 1) j)
+            → b ≡ reach (read_event ws vs n at)
+        event_both b j ea eb = two_events (reached (Ok j)) ea _ (then_next (Ok j) _ _ j refl eb)
 
-        pub event_stop : (q : Fault) → reached (Err q) ≡ reach (read_event ws vs (n - 1) (at + 1)) → reached (Err q) ≡ reach (read_event ws vs n at)
-        event_stop q ea = two_events (Err q) ea _ (then_stop (Err q) _ q refl)
+        pub event_stop : (q i : ℕ) → Refused q i ≡ reach (read_event ws vs (n - 1) (at + 1)) → Refused q i ≡ reach (read_event ws vs n at)
+        unfolding then_at
+        event_stop q i ea = two_events (Refused q i) ea _ refl
 
-      module _ (k s : ℕ) (b : Bool) (e2 : o ≡ 2) (ek : k ≡ W.kind w) (n7 : k ≡ 7 → ⊥) (es : s ≡ W.sort w)
-          (c : Result Change Unnamed) (ec : IsChange s c) (eb : b ≡ is_ok c) where
-        pub event_sort : b ≡ false → reached (Err (Range at)) ≡ reach (read_event ws vs n at)
-        unfolding event_by within reach reached refusal carried
-        event_sort t = event_arm _ (rw (← eo, e2, ← ek, ne_eqb k 7 n7, ← es, ← ec.0, ← eb, t))
+        -- of a fault of the code
+        pub event_fault : (q : Fault) → reached (Err q) ≡ reach (read_event ws vs (n - 1) (at + 1)) → reached (Err q) ≡ reach (read_event ws vs n at)
+        unfolding reached
+        event_fault q ea = event_stop (refusal q) (carried q) ea
 
-        pub event_change : (r : Result ℕ Fault) → b ≡ true → reached r ≡ change_reach ws vs (n - 1) (at + 1) → reached r ≡ reach (read_event ws vs n at)
-        unfolding event_by within change_reach
-        event_change r t er =
-            event_arm _
-            (rw (← eo, e2, ← ek, ne_eqb k 7 n7, ← es, ← ec.0, ← eb, t)
-            (er ∙ rw (add-one at) (sym (two_reach (read_condition ws vs (n - 1) (suc at)) (read_condition ws vs (n - 1)) _))))
+      module _ (k s : ℕ) (b : Bool) (e2 : o ≡ 2) (ek : k ≡ W.kind w) (n7 : k ≡ 7 → ⊥) (es : s ≡ W.sort w) where
+        module _ (eb : b ≡ within 1 2 s) where
+          pub event_sort : b ≡ false → reached (Err (Range at)) ≡ reach (read_event ws vs n at)
+          unfolding event_by reach reached refusal carried
+          event_sort t = event_arm _ (rw (← eo, e2, ← ek, ne_eqb k 7 n7, ← es, ← eb, t))
+
+          pub event_change : (r : Reached) → b ≡ true → r ≡ change_reach ws vs (n - 1) (at + 1) → r ≡ reach (read_event ws vs n at)
+          unfolding event_by change_reach
+          event_change r t er =
+              event_arm r
+              (rw (← eo, e2, ← ek, ne_eqb k 7 n7, ← es, ← eb, t)
+              (er ∙ rw (add-one at) (sym (two_reach (read_condition ws vs (n - 1) (suc at)) (read_condition ws vs (n - 1)) _))))
+
+        -- by the name that the code looks for
+        module _ (c : Result Change Unnamed) (ec : IsChange s c) (eb : b ≡ is_ok c) where
+          in_range : b ≡ within 1 2 s
+          unfolding within
+          in_range = eb ∙ ec.0
+
+          pub event_unnamed : b ≡ false → reached (Err (Range at)) ≡ reach (read_event ws vs n at)
+          event_unnamed t = event_sort in_range t
+
+          pub event_named : (r : Reached) → b ≡ true → r ≡ change_reach ws vs (n - 1) (at + 1) → r ≡ reach (read_event ws vs n at)
+          event_named r t er = event_change in_range r t er
 
 pub ruleset events =
-    (event_first, event_never, event_true, event_both, event_stop, event_sort, event_change)
+    (event_first, event_never, event_true, event_both, event_fault, event_unnamed, event_named)
 
 pub ruleset change_laws = (change_both, change_stop)

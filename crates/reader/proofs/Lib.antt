@@ -5,6 +5,7 @@ mod VariableLaws
 mod FormulaLaws
 mod RowLaws
 mod TableLaws
+mod TableFaults
 mod AssertionLaws
 mod Places
 mod Whole

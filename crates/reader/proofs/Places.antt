@@ -1,5 +1,5 @@
 -- What the places of the tables say of the tables that the meaning reads.
-use Rattle.std.specs.Prelude.{◌≡◌, refl, Bool, true, false, not, ◌&&◌, List, [], ◌∷◌, ◌++◌, ℕ, zero, suc, ◌≤◌, ◌<◌, eqb, length, get_or, set, Ok, Err}
+use Rattle.std.specs.Prelude.{◌≡◌, refl, Bool, true, false, not, ◌&&◌, List, [], ◌∷◌, ◌++◌, ℕ, zero, suc, ◌≤◌, ◌<◌, eqb, length, get_or, set}
 use Rattle.std.proofs.Math.Option.{Option, none, some}
 use Rattle.std.proofs.Common.{sym, ap, ◌∙◌, arith, length-set, get_or-set_same, get_or-set_other, ne_eqb, eq-eqb}
 use Rattle.std.proofs.Math.Decide.{ℕ_discrete}
@@ -14,10 +14,8 @@ use Rattle.theory.specs.Tests.{and_true}
 use Rattle.theory.specs.Readers.{word_then}
 use Rattle.theory.specs.TablesRead.{defined_below}
 use Rattle.theory.specs.Found.{fine_same, then_fine, expect_fine}
-use Rattle.index.specs.Places.{told, place_count}
+use Rattle.index.specs.Places.{Next, Refused, told, place_count}
 use Rattle.index.specs.Indexed.{Placed, absent, there}
-use Rattle.reader.specs.declared.faults.Fault.{Fault}
-use Rattle.reader.specs.Faults.{refusal, carried, reached}
 use Rattle.reader.specs.Tables.{is_placed, next_place, read_places}
 use Rattle.reader.specs.Variables.{NoTables}
 use Rattle.reader.proofs.TableLaws.{condition_rows, event_rows, condition_table_read, event_table_read}
@@ -205,18 +203,18 @@ module _ (ws : List ℕ) (vs : List Variable) (few : length vs ≤ Max.max_varia
     agreed n i = agree n i [] p₀ 0 len at_first
 
     -- what the answer of read_tables and what it wrote say of the meaning
-    pub tables_stopped : (n i : ℕ) (f : Fault) (ps : List ℕ) → told (reached (Err f)) ps ≡ read_places ws vs n i p₀ 0
-        → read_tables ws vs n i [] 0 ≡ stop (refusal f) (carried f)
-    unfolding told reached
-    tables_stopped n i f ps e = go (read_tables ws vs n i [] 0) (rw (← e) at (agreed n i))
+    pub tables_stopped : (n i k x : ℕ) (ps : List ℕ) → told (Refused k x) ps ≡ read_places ws vs n i p₀ 0
+        → read_tables ws vs n i [] 0 ≡ stop k x
+    unfolding told
+    tables_stopped n i k x ps e = go (read_tables ws vs n i [] 0) (rw (← e) at (agreed n i))
       where
-        go : (m : Read (List Table)) → Agree ws vs m (stop (refusal f) (carried f)) → m ≡ stop (refusal f) (carried f)
+        go : (m : Read (List Table)) → Agree ws vs m (stop k x) → m ≡ stop k x
         go (stop l y) (p, q) = rw (p, q)
         go (fine a) h = absurd h
 
-    pub tables_read : (n i j : ℕ) (ps : List ℕ) → told (reached (Ok j)) ps ≡ read_places ws vs n i p₀ 0
+    pub tables_read : (n i j : ℕ) (ps : List ℕ) → told (Next j) ps ≡ read_places ws vs n i p₀ 0
         → (ts : List Table) × (read_tables ws vs n i [] 0 ≡ fine (ts, j)) × Places ws vs ts ps
-    unfolding told reached
+    unfolding told
     tables_read n i j ps e = go (read_tables ws vs n i [] 0) (rw (← e) at (agreed n i))
       where
         go : (m : Read (List Table)) → Agree ws vs m (fine (ps, j))

@@ -38,7 +38,7 @@ module _ (ws : List ℕ) (vs : List Variable) (w i : ℕ) where
   abbrev pub event_table_read : Read Table
   event_table_read = event_rows >>> λ r. fine (event_table_by (eqb (W.sort w) 1) (body_of w r.0), r.1)
 
-  body_reach : rows_reach ws vs (W.sort w) (W.defined w) (W.class_read w) Max.max_rows i ≡ reach (read_body ws vs w i)
+  pub body_reach : rows_reach ws vs (W.sort w) (W.defined w) (W.class_read w) Max.max_rows i ≡ reach (read_body ws vs w i)
   unfolding read_body rows_reach
   body_reach = go (eqb (W.sort w) 3)
     where
@@ -201,9 +201,9 @@ module _ (ws p₀ ps : List ℕ) (n i on before : ℕ) (all : Read (List ℕ)) (
           let z : n - i ≡ 0 = omega arith in
           rw (ea, kept) (sym (tables_last ws (variables_to ws p₀ n) on ps before (rw (← ew, ← ek) (eq-eqb k 2 e2))) ∙ (rw z at inv))
 
-      pub tables_refused : (q : Fault) → reached (Err q) ≡ reach (next_place ws (variables_to ws ps n) on ps before) → i < n → told (reached (Err q)) ps ≡ all
-      unfolding told reached
-      tables_refused q ea h = turn _ ea h
+      pub tables_refused : (q x : ℕ) → Refused q x ≡ reach (next_place ws (variables_to ws ps n) on ps before) → i < n → told (Refused q x) ps ≡ all
+      unfolding told
+      tables_refused q x ea h = turn _ ea h
 
       pub tables_on : (v j : ℕ) → reached (Ok j) ≡ reach (next_place ws (variables_to ws ps n) on ps before) → i < n → v ≡ W.defined w
           → read_places ws (variables_to ws p₀ n) (n - (i + 1)) j (set ps v (on + 1)) v ≡ all
@@ -214,9 +214,18 @@ module _ (ws p₀ ps : List ℕ) (n i on before : ℕ) (all : Read (List ℕ)) (
       unfolding told reached refusal carried
       tables_over j ea h = last _ ea h
 
-      pub tables_last_refused : (q : Fault) → reached (Err q) ≡ reach (next_place ws (variables_to ws ps n) on ps before) → n ≤ i → told (reached (Err q)) ps ≡ all
-      unfolding told reached
-      tables_last_refused q ea h = last _ ea h
+      pub tables_last_refused : (q x : ℕ) → Refused q x ≡ reach (next_place ws (variables_to ws ps n) on ps before) → n ≤ i → told (Refused q x) ps ≡ all
+      unfolding told
+      tables_last_refused q x ea h = last _ ea h
+
+      -- of a fault of the code
+      pub tables_fault : (q : Fault) → reached (Err q) ≡ reach (next_place ws (variables_to ws ps n) on ps before) → i < n → told (reached (Err q)) ps ≡ all
+      unfolding reached
+      tables_fault q ea h = tables_refused (refusal q) (carried q) ea h
+
+      pub tables_last_fault : (q : Fault) → reached (Err q) ≡ reach (next_place ws (variables_to ws ps n) on ps before) → n ≤ i → told (reached (Err q)) ps ≡ all
+      unfolding reached
+      tables_last_fault q ea h = tables_last_refused (refusal q) (carried q) ea h
 
 -- the place of a table is no place of a word
 pub tables_kept : (ws p₀ ps : List ℕ) (n on before w v j x : ℕ) → w ≡ word ws on → v ≡ W.defined w
@@ -226,4 +235,4 @@ pub tables_kept : (ws p₀ ps : List ℕ) (n on before w v j x : ℕ) → w ≡ 
 tables_kept ws p₀ ps n on before w v j x ew ev ea h kept =
     variables_kept ws ps n v x (store_in ws ps n on before w v j ew ev ea h) ∙ kept
 
-pub ruleset tables_laws = (tables_past, tables_end, tables_refused, tables_on, tables_last_refused, tables_over, tables_kept, store_fits)
+pub ruleset tables_laws = (tables_past, tables_end, tables_fault, tables_on, tables_last_fault, tables_over, tables_kept, store_fits)

@@ -1,11 +1,19 @@
 -- What code that keeps places alone says of formulas and rows. Rows are typed by their formula, places are not: these are the same
 -- readings for a table of type t, which is 3 for a condition table.
-use Rattle.std.specs.Prelude.{ℕ, List, eqb}
+use Rattle.std.specs.Prelude.{ℕ, Bool, true, false, List, eqb}
 use Rattle.word.specs.Limits as Max
 use Rattle.meaning.specs.Answers.{if◌give◌else◌}
 use Rattle.meaning.specs.Syntax.{Condition, Event, Variable}
 use Rattle.meaning.specs.Reading.{Read, read_condition, read_event, read_row, read_rows}
 use Rattle.index.specs.Places.{Reached, reach, then_at}
+
+-- the number of a word's refusal, 0 for none: "each word, in this order", 2, 4, 3, 5
+unfoldable pub fault_of : (fits room ranged suited : Bool) → ℕ
+fault_of false room ranged suited = 2
+fault_of true false ranged suited = 4
+fault_of true true false suited = 3
+fault_of true true true false = 5
+fault_of true true true true = 0
 
 module _ (ws : List ℕ) (vs : List Variable) where
   -- the two conditions of a change

@@ -8,7 +8,7 @@ use word::MAX_VARIABLES;
 
 // How far the set goes, by variable the places of its table and its word and its weight in a state's number, and the dependency order. The lists have room for
 // the most that a set may have, as there is no heap.
-#[derive(Drop)]
+#[derive(Clone, Copy)]
 pub struct Opened {
     pub extent: Extent,
     pub places: [usize; PLACES],

@@ -2,7 +2,7 @@ use Rattle.std.proofs.Common.{refl, rules}
 use Rattle.std.proofs.lemmas.Result.{err_from_is_err_and}
 use Rattle.meaning.specs.Searches.{mem}
 use Rattle.meaning.specs.Reading.{condition_kinds}
-use Rattle.reader.proofs.FormulaLaws.{conditions, condition_first, condition_stop, condition_both}
+use Rattle.reader.proofs.FormulaLaws.{conditions, condition_first, condition_fault, condition_both}
 use Rattle.reader.proofs.formulas.+read_condition.Goals as goal
 
 pub returns-in_err-w : goal.returns-in_err-w
@@ -15,7 +15,7 @@ pub returns-in_err-second-in-2 : goal.returns-in_err-second-in-2
 returns-in_err-second-in-2 t c =
     let begins = c.first_word.ensures.value condition_kinds (unfold mem in refl) (λ x b q. search rules) in
     let p = err_from_is_err_and c.from_residual-in_err-second-in-2.result c.from_residual-in_err-second-in-2.ensures.1 in
-    rw (p.1, p.2) (search (condition_stop, c.in_ok-w.was, c.in_err-second-in-2.ensures))
+    rw (p.1, p.2) (search (condition_fault, c.in_ok-w.was, c.in_err-second-in-2.ensures))
 
 pub returns-in-2 : goal.returns-in-2
 returns-in-2 t c =

@@ -2,7 +2,7 @@ use Rattle.std.proofs.Common.{refl, rules}
 use Rattle.std.proofs.lemmas.Result.{err_from_is_err_and}
 use Rattle.meaning.specs.Searches.{mem}
 use Rattle.meaning.specs.Reading.{event_kinds}
-use Rattle.reader.proofs.FormulaLaws.{event_first, event_stop, event_both, event_sort, event_change, event_never, event_true}
+use Rattle.reader.proofs.FormulaLaws.{event_first, event_fault, event_both, event_unnamed, event_named, event_never, event_true}
 use Rattle.reader.proofs.formulas.+read_event.Goals as goal
 
 pub returns-in_err-w : goal.returns-in_err-w
@@ -15,7 +15,7 @@ pub returns-in_err-second-in-2 : goal.returns-in_err-second-in-2
 returns-in_err-second-in-2 t c =
     let begins = c.first_word.ensures.value event_kinds (unfold mem in refl) (λ x b q. search rules) in
     let p = err_from_is_err_and c.from_residual-in_err-second-in-2.result c.from_residual-in_err-second-in-2.ensures.1 in
-    rw (p.1, p.2) (search (event_stop, c.in_ok-w.was, c.in_err-second-in-2.ensures))
+    rw (p.1, p.2) (search (event_fault, c.in_ok-w.was, c.in_err-second-in-2.ensures))
 
 pub returns-then-kind : goal.returns-then-kind
 returns-then-kind t c =
@@ -25,12 +25,12 @@ returns-then-kind t c =
 pub returns-in-2 : goal.returns-in-2
 returns-in-2 t c =
     let begins = c.first_word.ensures.value event_kinds (unfold mem in refl) (λ x b q. search rules) in
-    search (event_sort, c.in_ok-w.was)
+    search (event_unnamed, c.in_ok-w.was)
 
 pub returns-then-is_ok : goal.returns-then-is_ok
 returns-then-is_ok t c =
     let begins = c.first_word.ensures.value event_kinds (unfold mem in refl) (λ x b q. search rules) in
-    search (event_change, c.in_ok-w.was)
+    search (event_named, c.in_ok-w.was)
 
 pub returns-then-truth-eq0 : goal.returns-then-truth-eq0
 returns-then-truth-eq0 t c =
