@@ -109,6 +109,7 @@ impl From<checker::Fault> for Refusal {
                 unsettled(0, state, none, fault.unsettled)
             }
             Place::AfterStep(state, input) => unsettled(1, state, input, fault.unsettled),
+            Place::Given(side, state, input) => unsettled(side, state, input, fault.unsettled),
         }
     }
 }

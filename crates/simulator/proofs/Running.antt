@@ -1,11 +1,21 @@
 -- Laws of the event loop, one for each way out of it: what is left from here is the whole.
-use Rattle.std.proofs.Common.{◌≡◌, sym, ap, ◌∙◌, ℕ, ◌+◌, ◌≤◌, ◌<◌, List, [], ◌∷◌, add-one, length, get_or, set, drop, drop_of_length-le, drop-cons, Result, Ok, Err}
+use Rattle.std.proofs.Common.{◌≡◌, refl, sym, ap, ◌∙◌, ℕ, ◌+◌, ◌≤◌, ◌<◌, List, [], ◌∷◌, add-one, length, get_or, set, drop, drop_of_length-le, drop-cons, Result, Ok, Err}
 use Rattle.std.proofs.lemmas.List.Edits.{sets}
-use Rattle.meaning.specs.Answers.{Outcome, ok}
+use Rattle.meaning.specs.Answers.{Outcome, ok, refuse}
+use Rattle.meaning.specs.Steps.{Input}
 use Rattle.meaning.specs.Run.{Ran}
-use Rattle.simulator.specs.declared.Stopped.{Stopped}
-use Rattle.simulator.specs.StepIndex.{stepped_says, ended_says, step_index}
+use Rattle.simulator.specs.declared.Stopped as D
+use Rattle.simulator.specs.StepIndex.{Stepped, stepped_says, ended_says, step_index}
 use Rattle.simulator.specs.RunIndex.{run_index}
+
+-- the step gave no state, as the code finds it (`D.Stopped` is what the code tells of an event that is not done)
+abbrev pub Stopped : Stepped → Type 0
+Stopped r = (t : ℕ) → r ≡ Ok t → ⊥
+
+pub stopped_refuses : (s : ℕ) (e : Input) (r : Stepped) → Stopped r → (k : ℕ) × (xs : List ℕ) × (stepped_says s e r ≡ refuse k xs)
+unfolding stepped_says
+stopped_refuses s e (Ok t) h = absurd (h t refl)
+stopped_refuses s e (Err why) h = (_, _, refl)
 
 module _ (ws ps us os : List ℕ) (n i s : ℕ) (es out : List ℕ) where
   -- no event is left
@@ -17,7 +27,7 @@ module _ (ws ps us os : List ℕ) (n i s : ℕ) (es out : List ℕ) where
   unfolding run_index
   run_end_trace all inv h = rw (drop_of_length-le es h) at inv
 
-  module _ (r : Result ℕ Stopped) (h : i < length es) (er : ended_says r ≡ step_index ws ps us os n i s (get_or es i 0)) where
+  module _ (r : Result ℕ D.Stopped) (h : i < length es) (er : ended_says r ≡ step_index ws ps us os n i s (get_or es i 0)) where
     -- an event is done
     module _ (t : ℕ) (e : r ≡ Ok t) where
       run_on : run_index ws ps us os n i s (drop i es)
@@ -37,7 +47,7 @@ module _ (ws ps us os : List ℕ) (n i s : ℕ) (es out : List ℕ) where
       run_on_trace all inv = rw (add-one i) (rw (run_on, add-one i) at inv)
 
     -- an event is refused
-    module _ (x : Stopped) (e : r ≡ Err x) where
+    module _ (x : D.Stopped) (e : r ≡ Err x) where
       run_stop : run_index ws ps us os n i s (drop i es) ≡ record { done = []; last = ended_says (Err x) }
       unfolding run_index ended_says stepped_says
       run_stop =
