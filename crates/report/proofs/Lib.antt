@@ -1,3 +1,4 @@
+pub mod Putting
 pub mod Words
 pub mod Numbers
 pub mod Printing

@@ -30,10 +30,11 @@ module _ (old named all : List ℕ) where
   unfolding pass_line
   pass_put c e q = rw (q, e, append_assoc)
 
-  pub refusal_put : (numbered : List ℕ) (t : Told) (q : Refusal) (n : ℕ) → told_says t ≡ refusal_says q → n ≡ t.number → named ≡ old ++ 82 ∷ 69 ∷ 70 ∷ 85 ∷ 83 ∷ 69 ∷ []
-      → numbered ≡ named ++ 32 ∷ decimal n → all ≡ numbered ++ fields (take t.count t.carried) → all ≡ old ++ refuse_line (refusal_says q).0 (refusal_says q).1
+  pub refusal_put : (numbered part : List ℕ) (t : Told) (q : Refusal) (n : ℕ) → told_says t ≡ refusal_says q → n ≡ t.number → part ≡ take t.count t.carried
+      → named ≡ old ++ 82 ∷ 69 ∷ 70 ∷ 85 ∷ 83 ∷ 69 ∷ [] → numbered ≡ named ++ 32 ∷ decimal n → all ≡ numbered ++ fields part
+      → all ≡ old ++ refuse_line (refusal_says q).0 (refusal_says q).1
   unfolding refuse_line fields told_says
-  refusal_put numbered t q n h e en ef ez = rw (ez, ef, en, e, ← h) (simp append_assoc)
+  refusal_put numbered part t q n h e ep en ef ez = rw (ez, ef, en, e, ep, ← h) (simp append_assoc)
 
 -- ---- the lines of events
 -- the bytes of one whose index a run can have are few

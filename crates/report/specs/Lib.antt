@@ -1,4 +1,5 @@
 pub mod Room
+pub mod Text
 pub mod Lines
 pub mod Runs
 pub mod Beyond

@@ -2,10 +2,11 @@
 #![tactic(auto)]
 
 mod input; // bytes to words
-mod lines; // lines at the end of a text
+pub mod lines; // lines put into lent bytes
 mod parts; // parts of lists of words
 mod runs; // the lines of a run
 mod text; // bytes and decimal numbers at the end of a text
+mod text_lines; // lines at the end of a text
 
 ghost use Rattle.std.specs.Prelude.{◌≡◌, ℕ, ◌+◌, ◌≤◌, ◌++◌, length, take};
 ghost use Rattle.std.proofs.lemmas.List.Edits.{sets};
@@ -15,9 +16,9 @@ ghost use Rattle.meaning.specs.Program.{printed, program_of};
 ghost use Rattle.scr.specs.Answers.{verdict_says};
 ghost use Rattle.report.specs.Room as Room;
 
-use crate::lines::{put_pass, put_refusal};
 use crate::runs::put_run;
 use crate::text::{MAX_DIGITS, SMALL_DIGITS, STATE_DIGITS};
+use crate::text_lines::{put_pass, put_refusal};
 use arrayvec::ArrayVec;
 use scr::{Counts, Refusal};
 use word::MAX_EVENTS;
@@ -31,7 +32,7 @@ pub const MAX_INPUT: usize = MAX_INPUT_WORDS * 4;
 // event of a run.
 const FIELD: usize = MAX_DIGITS + 1;
 
-const LINE: usize = 6 + 7 * FIELD + 1;
+pub const LINE: usize = 6 + 7 * FIELD + 1;
 
 const EVENT_LINE: usize = 3 * (SMALL_DIGITS + 1) + (STATE_DIGITS + 1);
 

@@ -8,7 +8,7 @@ ghost use Rattle.scr.specs.Answers.{refusal_says, answer_says};
 ghost use Rattle.report.specs.Room as Room;
 ghost use Rattle.report.specs.Runs.{Passed, done_before, ran_lines};
 
-use crate::lines::{put_events, put_refusal};
+use crate::text_lines::{put_events, put_refusal};
 use arrayvec::ArrayVec;
 use scr::Refusal;
 use word::MAX_EVENTS;

@@ -4,7 +4,7 @@ ghost use Rattle.scr.specs.Answers.{refusal_says};
 ghost use Rattle.scr.specs.Telling.{told_says};
 
 use crate::Refusal;
-use crate::told::Told;
+pub use crate::told::{MAX_CARRIED, Told};
 
 // The number of a refusal, and what it carries, in the documents' order.
 #[tactic(auto, using(crate::proofs::Refusing::told_case), unfolding(crate::specs::Answers::refusal_says, crate::specs::Telling::told_says))]

@@ -1,5 +1,6 @@
 // A number with what it carries.
-ghost use Rattle.std.specs.Prelude.{◌≡◌, ℕ, ◌≤◌, length, take};
+ghost use Rattle.std.specs.Prelude.{◌≡◌, ℕ, ◌≤◌, ◌∷◌, ◌++◌, length, take, flat_map, Some};
+ghost use Rattle.std.specs.Fmt.{decimal};
 ghost use Rattle.word.specs.Limits as Max;
 ghost use Rattle.scr.specs.Carried.{max_carried};
 
@@ -38,6 +39,8 @@ impl Told {
 
 // The number, and what is carried.
 impl fmt::Display for Told {
+    ghost output = { λ t. Some (decimal t.number ++ flat_map (λ n. 32 ∷ decimal n) (take t.count t.carried)) };
+
     fn fmt<W: fmt::Write>(&self, f: &mut fmt::Formatter<W>) -> fmt::Result {
         write!(f, "{}", self.number)?;
         for carried in &self.carried[..self.count] {

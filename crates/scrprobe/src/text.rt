@@ -1,12 +1,22 @@
 // The lines that tell what an entry answered.
-use scr::telling::tell;
+use report::LINE;
+use report::lines::{put_pass, put_refusal};
 use scr::{Counts, Refusal};
 use std::fmt::Display;
 use std::io;
 use std::io::Write;
 
+// As the program prints it, and a pass likewise.
 fn refusal<W: Write>(out: &mut W, why: Refusal) -> io::Result<()> {
-    writeln!(out, "REFUSE {}", tell(why))
+    let mut line = [0u8; LINE];
+    let end = put_refusal(&mut line, 0, why);
+    out.write_all(&line[..end])
+}
+
+fn pass<W: Write>(out: &mut W, counts: Counts) -> io::Result<()> {
+    let mut line = [0u8; LINE];
+    let end = put_pass(&mut line, 0, counts);
+    out.write_all(&line[..end])
 }
 
 // A name and what was answered, or the refusal.
@@ -21,14 +31,10 @@ pub fn answer<W: Write, T: Display + Copy>(
     }
 }
 
-// Apart from `answer`, since counts are not printed by themselves: a type around them, only to print them here, would be longer than these arms.
+// Apart from `answer`, since counts are not printed by themselves.
 pub fn verdict<W: Write>(out: &mut W, answer: Result<Counts, Refusal>) -> io::Result<()> {
     match answer {
-        Ok(counts) => writeln!(
-            out,
-            "PASS {} {} {}",
-            counts.states, counts.steps, counts.assertions
-        ),
+        Ok(counts) => pass(out, counts),
         Err(why) => refusal(out, why),
     }
 }

@@ -1,10 +1,10 @@
-use Rattle.std.proofs.Common.{◌≡◌, ◌-◌, ◌/◌, ◌≤◌, ◌++◌, length, take}
+use Rattle.std.proofs.Common.{◌≡◌, ◌≤◌, ◌++◌, length, take, drop, map}
+use Rattle.std.specs.Int.{w32, from_le_bytes}
 use Rattle.word.specs.Limits as Max
-use Rattle.meaning.specs.Host.{words_of_bytes}
 use Rattle.scrhost.proofs.words.words_of.Given as goal
 
 abbrev pub invariant-loop-i : goal.invariant-loop-i
 invariant-loop-i l =
-    (l.i ≤ length l.bytes / 4)
+    (l.i ≤ length l.fours)
     × (length l.room ≡ Max.max_words)
-    × (take l.i l.room ++ words_of_bytes l.bytes (length l.bytes / 4 - l.i) l.i ≡ words_of_bytes l.bytes (length l.bytes / 4) 0)
+    × (take l.i l.room ++ map (from_le_bytes w32) (drop l.i l.fours) ≡ map (from_le_bytes w32) l.fours)

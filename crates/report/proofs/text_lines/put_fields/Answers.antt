@@ -1,6 +1,6 @@
 use Rattle.std.proofs.Common.{rules}
 use Rattle.report.proofs.Printing.{fields_on, fields_end}
-use Rattle.report.proofs.lines.put_fields.Goals as goal
+use Rattle.report.proofs.text_lines.put_fields.Goals as goal
 
 pub loop-n-preserved : goal.loop-n-preserved
 loop-n-preserved g c = (search rules, search rules, search fields_on)

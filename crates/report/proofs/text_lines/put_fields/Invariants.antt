@@ -1,7 +1,7 @@
 use Rattle.std.proofs.Common.{◌≡◌, ◌++◌, ◌+◌, ◌*◌, ◌≤◌, length, drop}
 use Rattle.meaning.specs.Program.{fields}
 use Rattle.report.specs.Room as Room
-use Rattle.report.proofs.lines.put_fields.Given as goal
+use Rattle.report.proofs.text_lines.put_fields.Given as goal
 
 abbrev pub invariant-loop-n : goal.invariant-loop-n
 invariant-loop-n g l =
