@@ -12,8 +12,9 @@ use scr::{check, step};
 use word::MAX_WORDS;
 use words::{fours_of, words_of};
 
-// The C interface has scr_check and scr_step, so both are functions of bytes and numbers. The room for the words is made only where there are words. They match on the bytes four by four: `map_or` was tried, and the result stayed
-// unproved, since the check by itself does not split what `map_or` promises into the case with words and the case without.
+// The C interface has scr_check and scr_step, so both are functions of bytes and numbers. They match on the bytes four by four, and the room for the words is made
+// only where there are words. `map_or` was tried, and the result stayed unproved, since the check by itself does not split what `map_or` promises into the case
+// with words and the case without.
 
 // 0, or the number of the refusal.
 #[tactic(auto, using(crate::proofs::Hosting::check_refused))]
