@@ -30,7 +30,7 @@ LINES = [
     (6, "a buffer with a place or a length beside it", SOURCE, r"^ *(pub )?fn \w+.*(out: &mut \[u8\], (at|on): usize)|^    pub count: usize,$"),
     (6, "places of the parts of a flat array", SOURCE, r"^pub const (READS|EVENT_READS|TOLD|TABLES|WEIGHTS|CLASSES|HELDS|NEEDED|EVENT_ENDS|PLACES|ORDER|COUNT|LEN|TURNS): usize"),
     (7, "choices by a table's type, passed on", SOURCE, r"^ *if (t|table\.\w+) == "),
-    (8, "lines of proofs that import from below std", PROOFS, r"^use (mathlib|Prim|lib|native|borrow)\."),
+    (8, "lines of proofs that import from below std", PROOFS, r"^use (mathlib|Prim|lib|native|borrow|denote)\."),
     (8, "answers that only ask the prover", PROOFS, r"^[\w-]+ (t )?c = search rules$"),
 ]
 
