@@ -59,6 +59,17 @@ pub ready_is : (ms : List ℕ) (n t v m : ℕ) (x y : Bool) → x ≡ untaken_by
 unfolding ready_by
 ready_is ms n t v m x y ex em ey = rw (ex, ey, em)
 
+-- one way out each
+pub ready_then : (ms : List ℕ) (n t v m : ℕ) (x y : Bool) → x ≡ untaken_by t v → x ≡ true → m ≡ get_or ms v 0 → y ≡ covered m t n
+    → y ≡ ready_by ms n t v
+ready_then ms n t v m x y ex tx em ey = let h = ready_is ms n t v m x y ex em ey in rw tx at h
+
+pub ready_else : (ms : List ℕ) (n t v : ℕ) (x : Bool) → x ≡ untaken_by t v → x ≡ false → x ≡ ready_by ms n t v
+ready_else ms n t v x ex fx =
+    let h : x && covered (get_or ms v 0) t n ≡ ready_by ms n t v = ready_is ms n t v _ x _ ex refl refl in
+    let k : false ≡ ready_by ms n t v = rw fx at h in
+    rw fx k
+
 -- ---- the order
 mask_grown : (xs : List ℕ) (v m : ℕ) → mask_of (xs ++ (v ∷ [])) m ≡ bit_or (mask_of xs m) (one_bit v)
 unfolding mask_of

@@ -17,15 +17,27 @@ returns-in_err-second-in-2 t c =
     let p = err_from_is_err_and c.from_residual-in_err-second-in-2.result c.from_residual-in_err-second-in-2.ensures.1 in
     rw (p.1, p.2) (search (condition_fault, c.in_ok-w.was, c.in_err-second-in-2.ensures))
 
+pub returns-in_err-end-in-2 : goal.returns-in_err-end-in-2
+returns-in_err-end-in-2 t c =
+    let begins = c.first_word.ensures.value condition_kinds (unfold mem in refl) (λ x b q. search rules) in
+    let p = err_from_is_err_and c.from_residual-in_err-end-in-2.result c.from_residual-in_err-end-in-2.ensures.1 in
+    rw (p.1, p.2) (search (condition_both, c.in_ok-w.was, c.in_ok-second-in-2.ensures, c.in_err-end-in-2.ensures))
+
 pub returns-in-2 : goal.returns-in-2
 returns-in-2 t c =
     let begins = c.first_word.ensures.value condition_kinds (unfold mem in refl) (λ x b q. search rules) in
-    search (condition_both, c.in_ok-w.was, c.in_ok-second-in-2.ensures)
+    search (condition_both, c.in_ok-w.was, c.in_ok-second-in-2.ensures, c.in_ok-end-in-2.ensures)
+
+pub returns-in_err-end-in-1 : goal.returns-in_err-end-in-1
+returns-in_err-end-in-1 t c =
+    let begins = c.first_word.ensures.value condition_kinds (unfold mem in refl) (λ x b q. search rules) in
+    let p = err_from_is_err_and c.from_residual-in_err-end-in-1.result c.from_residual-in_err-end-in-1.ensures.1 in
+    rw (p.1, p.2) (search (conditions, c.in_ok-w.was, c.in_err-end-in-1.ensures))
 
 pub returns-in-1 : goal.returns-in-1
 returns-in-1 t c =
     let begins = c.first_word.ensures.value condition_kinds (unfold mem in refl) (λ x b q. search rules) in
-    search (conditions, c.in_ok-w.was)
+    search (conditions, c.in_ok-w.was, c.in_ok-end-in-1.ensures)
 
 pub returns-then-kind : goal.returns-then-kind
 returns-then-kind t c =

@@ -20,7 +20,19 @@ returns-in_err-second-in-2 t c =
 pub returns-then-kind : goal.returns-then-kind
 returns-then-kind t c =
     let begins = c.first_word.ensures.value event_kinds (unfold mem in refl) (λ x b q. search rules) in
-    search (event_both, c.in_ok-w.was, c.in_ok-second-in-2.ensures)
+    search (event_both, c.in_ok-w.was, c.in_ok-second-in-2.ensures, c.in_ok-end-in-2.ensures)
+
+pub returns-in_err-end-in-2 : goal.returns-in_err-end-in-2
+returns-in_err-end-in-2 t c =
+    let begins = c.first_word.ensures.value event_kinds (unfold mem in refl) (λ x b q. search rules) in
+    let p = err_from_is_err_and c.from_residual-in_err-end-in-2.result c.from_residual-in_err-end-in-2.ensures.1 in
+    rw (p.1, p.2) (search (event_both, c.in_ok-w.was, c.in_ok-second-in-2.ensures, c.in_err-end-in-2.ensures))
+
+pub returns-in_err-end-in-2-2 : goal.returns-in_err-end-in-2-2
+returns-in_err-end-in-2-2 t c =
+    let begins = c.first_word.ensures.value event_kinds (unfold mem in refl) (λ x b q. search rules) in
+    let p = err_from_is_err_and c.from_residual-in_err-end-in-2-2.result c.from_residual-in_err-end-in-2-2.ensures.1 in
+    rw (p.1, p.2) (search (event_named, c.in_ok-w.was, c.in_err-end-in-2-2.ensures))
 
 pub returns-in-2 : goal.returns-in-2
 returns-in-2 t c =
@@ -30,7 +42,7 @@ returns-in-2 t c =
 pub returns-then-is_ok : goal.returns-then-is_ok
 returns-then-is_ok t c =
     let begins = c.first_word.ensures.value event_kinds (unfold mem in refl) (λ x b q. search rules) in
-    search (event_named, c.in_ok-w.was)
+    search (event_named, c.in_ok-w.was, c.in_ok-end-in-2-2.ensures)
 
 pub returns-then-truth-eq0 : goal.returns-then-truth-eq0
 returns-then-truth-eq0 t c =
